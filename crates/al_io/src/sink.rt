@@ -28,7 +28,8 @@ pub fn write_whole<K: Sink>(sink: &mut K, bytes: &[u8]) -> Result<(), Failed>
 {
     let mut at = 0;
     while at < bytes.len() {
-        at += sink.write(&bytes[at..])?;
+        let taken = sink.write(&bytes[at..])?;
+        at += taken;
     }
     Ok(())
 }
