@@ -1,3 +1,5 @@
+pub mod Field
+pub mod Hash
 pub mod Text
 pub mod Value
 pub mod formers

@@ -4,6 +4,8 @@
 
 mod boxed;
 mod fault;
+mod field;
+mod hash;
 mod list;
 mod name;
 mod row;
@@ -13,6 +15,8 @@ mod value;
 
 pub use boxed::Boxed;
 pub use fault::{Failed, NoMemory};
+pub use field::{FieldFault, cmp_fields, get_field, put_field};
+pub use hash::{hash_add, hash_start};
 pub use list::List;
 pub use name::Name;
 pub use row::{Row, copy_rows};

@@ -1,0 +1,6 @@
+pub mod AllOk
+pub mod Cells
+pub mod FieldLaws
+pub mod Rows
+pub mod Texts
+pub mod Walks

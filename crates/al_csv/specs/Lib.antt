@@ -1,0 +1,5 @@
+pub mod Fields
+pub mod Lines
+pub mod OutText
+pub mod Records
+pub mod Written

@@ -1,0 +1,3 @@
+pub mod Func
+pub mod Items
+pub mod Rex

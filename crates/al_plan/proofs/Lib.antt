@@ -1,0 +1,3 @@
+pub mod EvalLaws
+pub mod RowLaws
+pub mod PlanLaws

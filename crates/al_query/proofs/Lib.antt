@@ -1,0 +1,9 @@
+pub mod ThinPieces
+pub mod ThinAccept
+pub mod ThinReads
+pub mod ThinNames
+pub mod ThinLine
+pub mod ThinWhole
+pub mod Values
+pub mod ThinAnswers
+pub mod Dues

@@ -1,0 +1,14 @@
+//! The commands of the program, over the texts and files that they read.
+#![tactic(auto)]
+
+mod answer;
+mod command;
+mod status;
+mod thin;
+
+pub use command::plain_command;
+pub use status::{DataKind, DataRefused, Refused, RefusedKind, Status};
+pub use thin::{MAX_PLAN, ThinFile, ThinRefused, read_thin};
+
+#[cfg(test)]
+mod tests;

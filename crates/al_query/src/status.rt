@@ -1,0 +1,153 @@
+ghost use Rattle.std.specs.Prelude.{◌≡◌, ◌++◌, Some, OnOk, OnErr};
+ghost use Rattle.al_io.specs.Outside.{Counted, failed, Told, GainsPrefix};
+ghost use Rattle.al_query.specs.Lines.{code_of, data_kind_name, data_line, plan_line, refused_kind_name, status_line};
+
+use al_io::{Sink, write_pieces, write_whole};
+use al_value::{Failed, Name};
+use itoa::Buffer;
+
+/// What is wrong with a plan file.
+#[derive(Clone, Copy, Debug, PartialEq, Eq)]
+pub enum RefusedKind {
+    /// There is no such file.
+    Absent,
+    /// It is no accepted text of a form that is served.
+    Unbuilt,
+}
+
+impl RefusedKind {
+    fn name(self) -> &'static str
+        ensures { result.now ≡ refused_kind_name self }
+    {
+        match self {
+            RefusedKind::Absent => "Absent",
+            RefusedKind::Unbuilt => "Unbuilt",
+        }
+    }
+}
+
+/// A plan file that is refused, with the place in bytes from the start of its text.
+#[derive(Clone, Copy, Debug, PartialEq, Eq)]
+pub struct Refused {
+    pub kind: RefusedKind,
+    pub place: u32,
+}
+
+/// What is wrong with a data file.
+#[derive(Clone, Copy, Debug, PartialEq, Eq)]
+pub enum DataKind {
+    /// There is no such file.
+    Absent,
+    /// It has too many bytes or a bad record.
+    BadData,
+}
+
+impl DataKind {
+    fn name(self) -> &'static str
+        ensures { result.now ≡ data_kind_name self }
+    {
+        match self {
+            DataKind::Absent => "Absent",
+            DataKind::BadData => "BadData",
+        }
+    }
+}
+
+/// A data file that is refused, by the name that the plan file gives it.
+#[derive(Debug, Drop)]
+pub struct DataRefused {
+    pub file: Name,
+    pub kind: DataKind,
+}
+
+/// How a command ended.
+#[derive(Debug, Drop)]
+pub enum Status {
+    Done,
+    Usage,
+    PlanRefused(Refused),
+    DataRefused(DataRefused),
+    SourceFault,
+    SinkFault,
+    NoMemory,
+}
+
+impl Status {
+    /// The program's exit status.
+    pub fn code(&self) -> u8
+        ensures { result ≡ code_of self.now }
+    {
+        match self {
+            Status::Done => 0,
+            Status::Usage => 1,
+            Status::PlanRefused(_) => 2,
+            Status::DataRefused(_) => 3,
+            Status::SourceFault => 5,
+            Status::SinkFault => 6,
+            Status::NoMemory => 8,
+        }
+    }
+
+    /// Writes the line that tells a user of the status, and nothing where all is done. It takes
+    /// no memory.
+    pub fn write_line<E: Sink>(&self, err: &mut E) -> Result<(), Failed>
+        ensures ok { OnOk result (Told (E.written err.old) (λ old. E.written err.new ≡ Some (old ++ status_line self.now))) }
+        ensures part { OnErr result (Told (E.written err.old) (λ old. GainsPrefix old (status_line self.now) (E.written err.new))) }
+        ensures cause { Counted (failed result) (E.faults err.old) (E.faults err.new) }
+    {
+        match self {
+            Status::Done => write_whole(err, b""),
+            Status::Usage => write_whole(err, b"usage: algebricks COMMAND ARGUMENTS [OPTIONS]\n"),
+            Status::PlanRefused(refused) => write_plan_refused(*refused, err),
+            Status::DataRefused(refused) => write_data_refused(refused, err),
+            Status::SourceFault => write_whole(err, b"source fault\n"),
+            Status::SinkFault => write_whole(err, b"sink fault\n"),
+            Status::NoMemory => write_whole(err, b"no memory\n"),
+        }
+    }
+}
+
+fn write_plan_refused<E: Sink>(refused: Refused, err: &mut E) -> Result<(), Failed>
+    ensures ok { OnOk result (Told (E.written err.old) (λ old. E.written err.new ≡ Some (old ++ plan_line refused))) }
+    ensures part { OnErr result (Told (E.written err.old) (λ old. GainsPrefix old (plan_line refused) (E.written err.new))) }
+    ensures cause { Counted (failed result) (E.faults err.old) (E.faults err.new) }
+{
+    let mut buffer = Buffer::new();
+    let place = buffer.format(refused.place).as_bytes();
+    let kind = refused.kind.name().as_bytes();
+    write_refusal(b"plan refused: ", kind, b" at ", place, b"\n", err)
+}
+
+fn write_data_refused<E: Sink>(refused: &DataRefused, err: &mut E) -> Result<(), Failed>
+    ensures ok { OnOk result (Told (E.written err.old) (λ old. E.written err.new ≡ Some (old ++ data_line refused.now))) }
+    ensures part { OnErr result (Told (E.written err.old) (λ old. GainsPrefix old (data_line refused.now) (E.written err.new))) }
+    ensures cause { Counted (failed result) (E.faults err.old) (E.faults err.new) }
+{
+    let file = refused.file.as_str().as_bytes();
+    let kind = refused.kind.name().as_bytes();
+    write_refusal(
+        b"data refused: ",
+        file,
+        b": ",
+        kind,
+        b" record 0 column 0\n",
+        err,
+    )
+}
+
+/// Writes the line of a refusal: what is refused, and two particulars with what stands between
+/// them and behind them.
+fn write_refusal<'a, E: Sink>(
+    what: &'a [u8],
+    first: &'a [u8],
+    between: &'a [u8],
+    second: &'a [u8],
+    behind: &'a [u8],
+    err: &mut E,
+) -> Result<(), Failed>
+    ensures ok { OnOk result (Told (E.written err.old) (λ old. E.written err.new ≡ Some (old ++ (what.now ++ (first.now ++ (between.now ++ (second.now ++ behind.now))))))) }
+    ensures part { OnErr result (Told (E.written err.old) (λ old. GainsPrefix old (what.now ++ (first.now ++ (between.now ++ (second.now ++ behind.now)))) (E.written err.new))) }
+    ensures cause { Counted (failed result) (E.faults err.old) (E.faults err.new) }
+{
+    write_pieces(err, &[what, first, between, second, behind])
+}
