@@ -1,5 +1,5 @@
 -- Results one after the other: all of them so far, one more, and the first error.
-use Rattle.std.proofs.Common.{ℕ, List, [], ◌∷◌, ◌++◌, ◌≡◌, ◌∙◌, Result, Ok, Err, refl, sym, ap, length, arith}
+use Rattle.std.proofs.Common.{List, [], ◌∷◌, ◌++◌, ◌≡◌, Result, Ok, Err, refl, ap, length, arith}
 use Rattle.al_csv.specs.Records.{all_ok, then_all}
 
 pub all_ok_none : {A E : Type 0} → all_ok {A = A} {E = E} [] ≡ Ok []

@@ -1,5 +1,5 @@
 -- The cells of a record, column by column.
-use Rattle.std.proofs.Common.{ℕ, suc, List, [], ◌∷◌, ◌++◌, ◌+◌, ◌<◌, ◌≤◌, ◌≡◌, ◌∙◌, Result, Ok, Err, map, take, drop, length, get_or, refl, sym, ap, arith, subst, min, eq-eqb, inl, inr, ◌==◌}
+use Rattle.std.proofs.Common.{ℕ, suc, List, [], ◌∷◌, ◌++◌, ◌+◌, ◌<◌, ◌≡◌, ◌∙◌, Result, Ok, Err, map, take, drop, length, get_or, refl, sym, ap, arith, min, eq-eqb, inl, inr, ◌==◌}
 use Rattle.std.proofs.lemmas.Bool.{cases_Bool, eqb-true, ne_eqb}
 use Rattle.al_csv.specs.declared.refused.DataKind.TheVariants.{BadCount}
 use Rattle.std.specs.List.{enumerate_from, zip}

@@ -1,19 +1,16 @@
 -- What std's reading of a text gives is what our definitions of a field say.
-use Rattle.std.proofs.Common.{ℕ, zero, suc, ◌-◌, ◌+◌, ◌*◌, ◌^◌, ◌<◌, ◌≤◌, ◌==◌, ◌||◌, ◌&&◌, List, [], ◌∷◌, ◌≡◌, ◌∙◌, Bool, true, false, length, map, drop, cond, refl, sym, ap, inl, inr, subst, rules, arith, Result, Ok, Err, ltb, leb, eqb, ℤ, pos, negsuc, neg_ℤ, IsUtf8, get_or}
+use Rattle.std.proofs.Common.{ℕ, zero, suc, ◌^◌, ◌<◌, ◌≤◌, ◌==◌, List, [], ◌∷◌, ◌≡◌, ◌∙◌, true, false, length, refl, sym, ap, inl, inr, arith, Ok, Err, ℤ, pos, negsuc, neg_ℤ, IsUtf8, get_or}
 use Rattle.std.proofs.lemmas.Int.{to_z-of_z}
 use mir.Val.{to_z, of_z}
-use Rattle.std.proofs.lemmas.Bool.{eqb-true, cases_Bool, false≢true, false_from_ne_true, ltb-true, lt-ltb, le-leb, lt-leb, and_from, and_parts, and_left, and_right}
-use Rattle.std.proofs.lemmas.Bool.Decides.{nat_tests}
+use Rattle.std.proofs.lemmas.Bool.{eqb-true, cases_Bool, false≢true, false_from_ne_true, ltb-true, lt-ltb, le-leb, lt-leb}
 use Rattle.std.proofs.lemmas.Str.{IsUtf8-from_ascii, is_utf8-from_IsUtf8, IsUtf8-from_is_utf8}
 use Rattle.std.proofs.lemmas.Fmt.{IsAscii-from_digits}
 use Rattle.std.proofs.lemmas.Str.Parse.{IsNumeralModel, numerals_by_weight, tells_all_ascii_digits, WeighsDigits}
 use Rattle.std.specs.Str.{all_ascii_digits, is_utf8, IsAscii}
-use Rattle.std.specs.Str.Parse.{AllDigits, IsNumeral, digits_value, signed_digits_value, without_leading_sign, starts_with_minus}
-use Rattle.std.specs.Prelude.{MatchResult, FitsSigned}
+use Rattle.std.specs.Str.Parse.{AllDigits, IsNumeral, signed_digits_value, without_leading_sign, starts_with_minus}
+use Rattle.std.specs.Prelude.{FitsSigned}
 use Rattle.std.specs.Int.{w64}
-use Rattle.al_value.specs.declared.value.Value.{Value}
 use Rattle.al_value.specs.declared.value.Value.TheVariants as V
-use Rattle.al_csv.specs.declared.refused.DataKind.{DataKind}
 use Rattle.al_csv.specs.declared.refused.DataKind.TheVariants.{BadInt, BadUtf8, TooLong}
 use Rattle.al_csv.specs.Fields.{number_of, without_sign, has_minus, int_of, is_digits, fits_int, int_field, text_field}
 
@@ -63,9 +60,9 @@ value_is (b ∷ rest) h =
     elim (cases_Bool (b == 45)) [
       | inl y ↦ let d = rw y at h in rw y (ap (λ (n : ℕ). neg_ℤ (pos n)) (sym (own.same rest d)))
       | inr n ↦ elim (cases_Bool (b == 43)) [
-          | inl y2 ↦ let d = rw (n, y2) at h in rw (n, y2) (ap (λ (n : ℕ). pos n) (sym (own.same rest d)))
-          | inr n2 ↦ let d = rw (n, n2) at h in rw (n, n2) (ap (λ (n : ℕ). pos n) (sym (own.same (b ∷ rest) d)))
-        ]
+        | inl y2 ↦ let d = rw (n, y2) at h in rw (n, y2) (ap (λ (n : ℕ). pos n) (sym (own.same rest d)))
+        | inr n2 ↦ let d = rw (n, n2) at h in rw (n, n2) (ap (λ (n : ℕ). pos n) (sym (own.same (b ∷ rest) d)))
+      ]
     ]
 
 fits_is : (z : ℤ) → fits_int z ≡ true → FitsSigned w64 z
@@ -83,9 +80,9 @@ int_bad : (f : List ℕ) → (IsNumeral 10 (without_sign f) → FitsSigned w64 (
 int_bad f h =
     elim (cases_Bool (is_digits (without_sign f))) [
       | inl y ↦ elim (cases_Bool (fits_int (int_of f))) [
-          | inl y2 ↦ absurd (h (digits_are (without_sign f) y) (fits_is (int_of f) y2))
-          | inr n2 ↦ rw (y, n2) refl
-        ]
+        | inl y2 ↦ absurd (h (digits_are (without_sign f) y) (fits_is (int_of f) y2))
+        | inr n2 ↦ rw (y, n2) refl
+      ]
       | inr n ↦ rw n refl
     ]
 
@@ -99,9 +96,9 @@ ascii_sign (b ∷ rest) h =
     elim (cases_Bool (b == 45)) [
       | inl y ↦ let d = rw y at h in ascii_more b rest (omega (arith, eqb-true b 45 y)) (IsAscii-from_digits rest d)
       | inr n ↦ elim (cases_Bool (b == 43)) [
-          | inl y2 ↦ let d = rw (n, y2) at h in ascii_more b rest (omega (arith, eqb-true b 43 y2)) (IsAscii-from_digits rest d)
-          | inr n2 ↦ let d = rw (n, n2) at h in IsAscii-from_digits (b ∷ rest) d
-        ]
+        | inl y2 ↦ let d = rw (n, y2) at h in ascii_more b rest (omega (arith, eqb-true b 43 y2)) (IsAscii-from_digits rest d)
+        | inr n2 ↦ let d = rw (n, n2) at h in IsAscii-from_digits (b ∷ rest) d
+      ]
     ]
 
 pub int_not_text : (f : List ℕ) → (IsUtf8 f → ⊥) → int_field f ≡ Err BadInt

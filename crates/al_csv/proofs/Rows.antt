@@ -1,10 +1,7 @@
 -- The rows of a file, record by record.
-use Rattle.std.proofs.Common.{ℕ, suc, List, [], ◌∷◌, ◌++◌, ◌+◌, ◌<◌, ◌≤◌, ◌≡◌, ◌∙◌, Result, Ok, Err, map, drop, length, refl, sym, ap, arith, inl, inr, append_assoc, length-append}
+use Rattle.std.proofs.Common.{ℕ, List, [], ◌∷◌, ◌++◌, ◌+◌, ◌<◌, ◌≡◌, ◌∙◌, Result, Ok, Err, map, drop, length, refl, ap, arith, append_assoc, length-append}
 use Rattle.std.specs.List.{All, enumerate_from}
-use Rattle.std.proofs.lemmas.Bool.{cases_Bool, eqb-true}
 use Rattle.std.proofs.lemmas.List.Elements.{All-cons, All-nil}
-use Rattle.std.proofs.lemmas.List.{map-append, length-map}
-use Rattle.std.proofs.lemmas.List.FromFn.{length-enumerate_from}
 use Rattle.csv.specs.Reading as reading
 use Rattle.csv.specs.Reading.{default_config, strip_bom}
 use Rattle.al_value.specs.declared.value.Value.{Value}
@@ -14,7 +11,7 @@ use Rattle.al_csv.specs.declared.refused.LoadRefused.{LoadRefused}
 use Rattle.al_csv.specs.declared.refused.LoadRefused.TheVariants.{Bad, NoMemory}
 use Rattle.al_csv.specs.Records.{Tells, all_ok, records, row_of}
 use Rattle.al_csv.proofs.AllOk.{all_ok_none, all_ok_push, all_ok_nil, all_ok_stop, first_ok}
-use Rattle.al_csv.proofs.Cells.{cells, length-cells, row_is, row_width}
+use Rattle.al_csv.proofs.Cells.{row_width}
 
 abbrev Fields : Type 0
 Fields = List (List ℕ)
@@ -29,7 +26,7 @@ rows_append columns first [] after = ap (λ (k : ℕ). map (row_of columns) (enu
 rows_append columns first (f ∷ before) after =
     let later : (first + 1) + length before ≡ first + length (f ∷ before) = omega arith in
     ap (λ (rs : List (Result (List Value) BadRecord)). row_of columns (first, f) ∷ rs)
-      (rows_append columns (first + 1) before after ∙ ap (λ (k : ℕ). map (row_of columns) (enumerate_from (first + 1) before) ++ map (row_of columns) (enumerate_from k after)) later)
+    (rows_append columns (first + 1) before after ∙ ap (λ (k : ℕ). map (row_of columns) (enumerate_from (first + 1) before) ++ map (row_of columns) (enumerate_from k after)) later)
 
 -- one more good record
 pub rows_push : (columns : List Column) (before : List Fields) (f : Fields) (number : ℕ) (rows : List (List Value)) (row : List Value)

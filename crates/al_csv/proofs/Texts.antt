@@ -1,9 +1,9 @@
 -- A line as `csv` writes it is the line of our own definition.
-use Rattle.std.proofs.Common.{ℕ, List, [], ◌∷◌, ◌++◌, ◌==◌, ◌||◌, ◌&&◌, ◌≡◌, ◌∙◌, Bool, true, false, not, length, map, refl, sym, ap, ap₂, arith, rules, inl, inr, cond, append_assoc, append-nil, Vec, Some, ◌+◌, ◌<◌, take, get_or}
+use Rattle.std.proofs.Common.{ℕ, List, [], ◌∷◌, ◌++◌, ◌==◌, ◌≡◌, ◌∙◌, true, false, length, map, refl, sym, ap, rules, inl, inr, append_assoc, append-nil, Vec, Some, ◌+◌, ◌<◌, take, get_or}
 use Rattle.std.specs.List.{list_any}
 use Rattle.std.proofs.lemmas.Bool.{cases_Bool}
 use Rattle.csv.specs.declared.writer.WriterBuilder.{WriterBuilder}
-use Rattle.csv.specs.Writing.{default_writer, escaped, field_text, fields_text, is_blank, fields_written, has_written, needs_byte, quoted, row_body, row_text, with_flexible, writer_setup}
+use Rattle.csv.specs.Writing.{default_writer, escaped, field_text, fields_text, is_blank, fields_written, has_written, needs_byte, row_text, with_flexible, writer_setup}
 use Rattle.csv.specs.declared.writer.Writer.{Writer}
 use Rattle.std.proofs.lemmas.List.{map-append, take_more}
 use Rattle.al_value.specs.declared.value.Value.{Value}

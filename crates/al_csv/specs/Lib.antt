@@ -1,4 +1,5 @@
 pub mod Fields
+pub mod Generator
 pub mod Lines
 pub mod OutText
 pub mod Records

@@ -8,7 +8,9 @@ use al_value::{List, Row};
 use csv::{ByteRecord, ReaderBuilder};
 use std::alloc::Global;
 
-/// The rows of a data file, a row for each record after the header.
+/// The rows of a data file, a row for each record after the header. `NoMemory` stands too for a
+/// fault of the reader, which reads from memory and has none, for a bad column from 2^32 on, and
+/// for a file of 2^64 - 1 records.
 pub fn load(alloc: Global, decl: &Decl, bytes: &[u8]) -> Result<List<Row>, LoadRefused>
     ensures rows { IfOk result (λ rows. records decl.now.columns bytes.now ≡ Ok rows) }
     ensures bad { IfErr result (Tells (records decl.now.columns bytes.now)) }

@@ -1,4 +1,4 @@
-use crate::{BadRecord, Column, DataKind, Decl, Kind, LoadRefused, load, out_text};
+use crate::{BadRecord, Column, DataKind, Decl, Kind, LoadRefused, generate, load, out_text};
 use al_value::{List, Name, Row, Text, Value};
 use std::alloc::Global;
 use std::test::Fail;
@@ -37,7 +37,11 @@ fn loads_texts(rt: HostRuntime) -> Result<(), Fail> {
     let decl = dataset(alloc, &[Kind::Text, Kind::Text])?;
     let rows = load(alloc, &decl, b"a,b\nx,1\ny,2\nx,3\n")?;
     assert_eq!(rt; rows.len(), 3);
-    for (row, (first, second)) in rows.as_slice().iter().zip([("x", "1"), ("y", "2"), ("x", "3")]) {
+    for (row, (first, second)) in rows
+        .as_slice()
+        .iter()
+        .zip([("x", "1"), ("y", "2"), ("x", "3")])
+    {
         let wanted = [text(alloc, first)?, text(alloc, second)?];
         assert!(rt; row.as_slice() == wanted.as_slice());
     }
@@ -56,7 +60,11 @@ fn loads_each_kind(rt: HostRuntime) -> Result<(), Fail> {
         b"i,t,b\n-9223372036854775808,\"a,\"\"b\",TRUE\n+007,,fAlse\n,z,\n",
     )?;
     let wanted = [
-        [Value::Int(i64::MIN), text(alloc, "a,\"b")?, Value::Bool(true)],
+        [
+            Value::Int(i64::MIN),
+            text(alloc, "a,\"b")?,
+            Value::Bool(true),
+        ],
         [Value::Int(7), Value::Null, Value::Bool(false)],
         [Value::Null, text(alloc, "z")?, Value::Null],
     ];
@@ -138,5 +146,17 @@ fn prints_each_kind(rt: HostRuntime) -> Result<(), Fail> {
     let printed = out_text(alloc, &names, &[empty, quoted])?;
     let wanted = b"d,s\n,-9223372036854775808\n\"a\"\"b,c\",false\n";
     assert_eq!(rt; printed.as_slice(), wanted.as_slice());
+    Ok(())
+}
+
+#[test]
+fn generates_rows(rt: HostRuntime) -> Result<(), Fail> {
+    let text = generate(rt.alloc(), 7, 2)?;
+    let wanted = b"id,grp,val,tag\n0,78,957623,cvzzeu\n1,31,394746,fwgvlq\n";
+    assert_eq!(rt; text.as_slice(), wanted.as_slice());
+    assert_eq!(rt;
+        generate(rt.alloc(), 7, 0)?.as_slice(),
+        b"id,grp,val,tag\n".as_slice()
+    );
     Ok(())
 }

@@ -1,6 +1,6 @@
 -- The words and the files determine what is due, and what was written of a line is a part of it.
 use Rattle.std.proofs.Common.{◌≡◌, ◌≢◌, ◌==◌, ℕ, map, ◌<◌, ◌≤◌, ◌⊎◌, List, [], ◌∷◌, ◌++◌, take, length, get_or, Option, None, Some, Bool, true, false, Result, Ok, Err, refl, ap, sym, subst, ◌∙◌, inl, inr, arith}
-use Rattle.std.specs.Prelude.{OnOk, OnErr, IsErr, nat_eq, codes}
+use Rattle.std.specs.Prelude.{OnOk, OnErr, nat_eq, codes}
 use lib.Utf8.{encode}
 use Rattle.std.specs.Cmp.Lexicographic.{pointwise, same_text}
 use Rattle.std.proofs.lemmas.Bool.{cases_Bool, eqb-true}
@@ -11,8 +11,7 @@ use Rattle.al_csv.specs.Records.{records}
 use Rattle.al_query.specs.declared.status.RefusedKind.{RefusedKind}
 use Rattle.al_query.specs.declared.status.RefusedKind.TheVariants as refused
 use Rattle.al_query.specs.declared.status.Refused.{Refused}
-use Rattle.al_query.specs.declared.status.DataKind.{DataKind}
-use Rattle.al_query.specs.declared.status.DataKind.TheVariants as kind
+use Rattle.al_csv.specs.declared.refused.BadRecord.{BadRecord}
 use Rattle.al_query.specs.declared.status.DataRefused.{DataRefused}
 use Rattle.al_query.specs.declared.status.Status.{Status}
 use Rattle.al_query.specs.declared.status.Status.TheVariants as St
@@ -20,7 +19,7 @@ use Rattle.al_query.specs.declared.thin.ThinFile.{ThinFile}
 use Rattle.al_query.specs.Thin.{IsThinText}
 use Rattle.al_query.specs.ThinPlan.{decl_of}
 use Rattle.al_query.proofs.ThinWhole.{one_reading}
-use Rattle.al_query.specs.Served.{IsStep, IsPlan, IsRefusedAs, IsPlanRefused, IsData, IsBadData, IsDataRefusedAs, IsDataRefused, IsGood, IsDue, IsDueOrFault, is_option, is_settled}
+use Rattle.al_query.specs.Served.{IsStep, IsPlan, IsRefusedAs, IsPlanRefused, IsData, IsBadData, absent, too_large, bad_record, IsDataRefused, IsGood, IsDue, IsDueOrFault, is_option, is_settled}
 
 -- ---- what a line's writing leaves
 
@@ -84,23 +83,24 @@ one_kind file refused.Unbuilt refused.Unbuilt h k = refl
 one_refusal : (file : Option Bytes) (r s : Refused) → IsPlanRefused file r → IsPlanRefused file s → r ≡ s
 one_refusal file r s (p, h) (q, k) i = record { kind = one_kind file r.kind s.kind h k i; place = (p ∙ sym q) i }
 
-err_is : {T E : Type 0} (r : Result T E) (x : T) → r ≡ Ok x → IsErr r → ⊥
-err_is (Ok y) x e h = cc
-err_is (Err d) x e h = cc
+one_bad : (f : ThinFile) (file : Option Bytes) (a b : BadRecord) → IsBadData f file a → IsBadData f file b → a ≡ b
+one_bad f file a b (absent none is) (absent none2 also) = is ∙ sym also
+one_bad f file a b (absent none is) (too_large bytes there many also) = cc
+one_bad f file a b (absent none is) (bad_record bytes there few also) = cc
+one_bad f file a b (too_large bytes there many is) (absent none also) = cc
+one_bad f file a b (too_large bytes there many is) (too_large bytes2 there2 many2 also) = is ∙ sym also
+one_bad f file a b (too_large bytes there many is) (bad_record bytes2 there2 few also) = let e = ap length (one_content file bytes bytes2 there there2) in absurd (omega (arith, e, many, few))
+one_bad f file a b (bad_record bytes there few is) (absent none also) = cc
+one_bad f file a b (bad_record bytes there few is) (too_large bytes2 there2 many also) = let e = ap length (one_content file bytes bytes2 there there2) in absurd (omega (arith, e, many, few))
+one_bad f file a b (bad_record bytes there few is) (bad_record bytes2 there2 few2 also) = let e = ap (λ (bs : Bytes). records (decl_of f).columns bs) (one_content file bytes bytes2 there there2) in cc
 
-no_data : (f : ThinFile) (file : Option Bytes) (k : DataKind) (rows : List (List Value)) → IsDataRefusedAs k f file → IsData f file rows → ⊥
-no_data f file kind.Absent rows h (b, here, few, is) = cc
-no_data f file kind.BadData rows (a, there, inl many) (b, here, few, is) = let e = ap length (one_content file a b there here) in omega (arith, e, many, few)
-no_data f file kind.BadData rows (a, there, inr bad) (b, here, few, is) = err_is (records (decl_of f).columns b) rows is (subst (λ (bytes : Bytes). IsErr (records (decl_of f).columns bytes)) (one_content file a b there here) bad)
-
-one_data_kind : (f : ThinFile) (file : Option Bytes) (j k : DataKind) → IsDataRefusedAs j f file → IsDataRefusedAs k f file → j ≡ k
-one_data_kind f file kind.Absent kind.Absent h k = refl
-one_data_kind f file kind.Absent kind.BadData h (b, here, bad) = cc
-one_data_kind f file kind.BadData kind.Absent (b, here, bad) k = cc
-one_data_kind f file kind.BadData kind.BadData h k = refl
+no_data : (f : ThinFile) (file : Option Bytes) (bad : BadRecord) (rows : List (List Value)) → IsBadData f file bad → IsData f file rows → ⊥
+no_data f file bad rows (absent none is) (b, here, few, good) = cc
+no_data f file bad rows (too_large bytes there many is) (b, here, few, good) = let e = ap length (one_content file bytes b there here) in omega (arith, e, many, few)
+no_data f file bad rows (bad_record bytes there small is) (b, here, few, good) = let e = ap (λ (bs : Bytes). records (decl_of f).columns bs) (one_content file bytes b there here) in cc
 
 one_data_refusal : (f : ThinFile) (file : Option Bytes) (d e : DataRefused) → IsDataRefused f file d → IsDataRefused f file e → d ≡ e
-one_data_refusal f file d e (p, h) (q, k) i = record { file = (p ∙ sym q) i; kind = one_data_kind f file d.kind e.kind h k i }
+one_data_refusal f file d e h k i = record { file = (h.named ∙ sym k.named) i; bad = one_bad f file d.bad e.bad h.is k.is i }
 
 -- ---- a status that is due
 
@@ -119,7 +119,7 @@ data_here words fs a b f g s t h k = one_plan (fs b) f g (plan_here fs a b f (on
 
 not_bad : (words : List Bytes) (fs : Files) (a b : Bytes) (f g : ThinFile) (d : DataRefused) (rows : List (List Value)) → IsStep words a → IsStep words b → IsPlan (fs a) f → IsPlan (fs b) g → IsDataRefused f (fs f.file) d → IsData g (fs g.file) rows → ⊥
 not_bad words fs a b f g d rows s t h k bad good =
-    no_data g (fs g.file) d.kind rows (subst (λ (x : ThinFile). IsDataRefusedAs d.kind x (fs x.file)) (data_here words fs a b f g s t h k) bad.1) good
+    no_data g (fs g.file) d.bad rows (subst (λ (x : ThinFile). IsBadData x (fs x.file) d.bad) (data_here words fs a b f g s t h k) bad.is) good
 
 due_is : (words : List Bytes) (fs : Files) (status due : Status) → IsDue words fs status → is_settled due ≡ true → IsDue words fs due → IsDueOrFault due status
 due_is words fs St.SourceFault due h s k = inr refl

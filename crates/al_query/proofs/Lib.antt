@@ -6,4 +6,5 @@ pub mod ThinLine
 pub mod ThinWhole
 pub mod Values
 pub mod ThinAnswers
+pub mod Refusals
 pub mod Dues

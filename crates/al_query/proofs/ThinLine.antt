@@ -1,6 +1,6 @@
 -- The parts of the line, and the whole of it.
-use Rattle.std.proofs.Common.{◌≡◌, ℕ, ◌+◌, ◌≤◌, ◌<◌, Bool, true, false, cond, List, [], ◌∷◌, ◌++◌, length, eqb, Option, Some, None, refl, sym, ap, ◌∙◌, subst, append_assoc, arith}
-use Rattle.std.specs.Prelude.{codes, nat_le, IsUtf8}
+use Rattle.std.proofs.Common.{◌≡◌, ℕ, true, cond, List, [], ◌∷◌, ◌++◌, length, eqb, Option, Some, None, refl, sym, ap, ◌∙◌, subst, append_assoc}
+use Rattle.std.specs.Prelude.{codes, nat_le}
 use Rattle.std.specs.Str.{is_utf8}
 use Rattle.std.specs.List.{prefix_len, list_all, flat_map}
 use Rattle.std.proofs.lemmas.Bool.{and_from, and_parts, leb-true, le-leb, eqb-true}
@@ -8,10 +8,10 @@ use Rattle.std.proofs.lemmas.List.{append-nil, nil_from_length}
 use Rattle.std.proofs.lemmas.List.Sums.{AllPass-from_list_all, list_all-from_AllPass}
 use Rattle.std.proofs.lemmas.Option.{cond_some}
 use Rattle.std.proofs.lemmas.Str.{IsUtf8-from_is_utf8, is_utf8-from_IsUtf8}
-use Rattle.al_query.specs.Thin.{is_name_byte, is_string_byte, IsName, IsString, string, column, next_variable, variables}
-use Rattle.al_query.specs.ThinReading.{◌>>=◌, literal_at, is_content, content_at, names_at, name_at, string_at, columns_at, variables_at, dataset_at, result_at, select_at, scan_at, both, Parts, line_at}
+use Rattle.al_query.specs.Thin.{is_string_byte, IsName, IsString, string, column, variables}
+use Rattle.al_query.specs.ThinReading.{◌>>=◌, literal_at, is_content, content_at, string_at, columns_at, variables_at, dataset_at, result_at, select_at, scan_at, both, Parts, line_at}
 use Rattle.al_query.proofs.ThinReads.{Reads, bind_some, piece_takes, piece_again, behind_reads, before_reads, both_reads}
-use Rattle.al_query.proofs.ThinNames.{StopsName, EndsNames, AreNames, joined, name_reads, names_reads}
+use Rattle.al_query.proofs.ThinNames.{EndsNames, AreNames, joined, name_reads, names_reads}
 
 -- ---- strings
 

@@ -1,7 +1,6 @@
 -- What the readers of the pieces need.
-use Rattle.std.proofs.Common.{◌≡◌, ℕ, zero, suc, ◌≤◌, ◌<◌, ◌+◌, Bool, true, false, cond, List, [], ◌∷◌, ◌++◌, length, take, drop, get_or, Option, Some, None, Result, Ok, Err, MatchOption, MatchResult, refl, sym, ap, ◌∙◌, subst, arith, inl, inr, ◌⊎◌}
+use Rattle.std.proofs.Common.{◌≡◌, ℕ, ◌≤◌, ◌<◌, ◌+◌, Bool, true, false, List, [], ◌∷◌, length, take, drop, Option, Some, None, Result, Ok, Err, MatchOption, MatchResult, refl, sym, subst, arith}
 use Rattle.std.specs.Prelude.{nat_eq, IsUtf8}
-use Rattle.std.specs.Option.{ok_or}
 use Rattle.std.specs.Result.{result_ok}
 use Rattle.std.specs.Str.{is_utf8, IsAscii}
 use Rattle.std.specs.List.{prefix_len, take_while}
@@ -12,9 +11,8 @@ use Rattle.std.proofs.lemmas.List.Sums.{prefix_len-le-length, take_while-cons}
 use Rattle.std.proofs.lemmas.Str.{IsUtf8-from_is_utf8, is_utf8-from_IsUtf8, IsUtf8-from_ascii}
 use Rattle.std.proofs.lemmas.Str.Ascii.{IsAscii-nil, IsAscii-cons}
 use Rattle.std.proofs.lemmas.Bool.Decides.{nat_tests}
-use Rattle.al_query.specs.declared.thin.ThinRefused.TheVariants as refused
 use Rattle.al_query.specs.Thin.{is_name_byte}
-use Rattle.al_query.specs.ThinReading.{Gives, literal_at, piece_at, name_at, is_name}
+use Rattle.al_query.specs.ThinReading.{literal_at}
 
 pub front_within : (p : ℕ → Bool) (xs : List ℕ) (n : ℕ) → n ≡ prefix_len p xs → n ≤ length xs
 front_within p xs n e = omega (arith, prefix_len-le-length p xs)

@@ -3,8 +3,8 @@ use Rattle.std.specs.Prelude.{ℕ, List, [], ◌∷◌, ◌++◌, codes, decimal
 use Rattle.al_query.specs.declared.status.RefusedKind.{RefusedKind}
 use Rattle.al_query.specs.declared.status.RefusedKind.TheVariants as refused
 use Rattle.al_query.specs.declared.status.Refused.{Refused}
-use Rattle.al_query.specs.declared.status.DataKind.{DataKind}
-use Rattle.al_query.specs.declared.status.DataKind.TheVariants as kind
+use Rattle.al_csv.specs.declared.refused.DataKind.{DataKind}
+use Rattle.al_csv.specs.declared.refused.DataKind.TheVariants as kind
 use Rattle.al_query.specs.declared.status.DataRefused.{DataRefused}
 use Rattle.al_query.specs.declared.status.Status.{Status}
 use Rattle.al_query.specs.declared.status.Status.TheVariants as St
@@ -24,13 +24,21 @@ refused_kind_name refused.Unbuilt = codes "Unbuilt"
 
 abbrev pub data_kind_name : DataKind → List ℕ
 data_kind_name kind.Absent = codes "Absent"
-data_kind_name kind.BadData = codes "BadData"
+data_kind_name kind.TooLarge = codes "TooLarge"
+data_kind_name kind.BadCount = codes "BadCount"
+data_kind_name kind.BadInt = codes "BadInt"
+data_kind_name kind.BadBool = codes "BadBool"
+data_kind_name kind.BadUtf8 = codes "BadUtf8"
+data_kind_name kind.TooLong = codes "TooLong"
 
 abbrev pub plan_line : Refused → List ℕ
 plan_line r = codes "plan refused: " ++ (refused_kind_name r.kind ++ (codes " at " ++ (decimal r.place ++ (10 ∷ []))))
 
+abbrev pub place_line : List ℕ → List ℕ → List ℕ → List ℕ → List ℕ
+place_line file kind number column = codes "data refused: " ++ (file ++ (codes ": " ++ (kind ++ (codes " record " ++ (number ++ (codes " column " ++ (column ++ (10 ∷ []))))))))
+
 abbrev pub data_line : DataRefused → List ℕ
-data_line d = codes "data refused: " ++ (d.file ++ (codes ": " ++ (data_kind_name d.kind ++ (codes " record 0 column 0" ++ (10 ∷ [])))))
+data_line d = place_line d.file (data_kind_name d.bad.kind) (decimal d.bad.number) (decimal d.bad.column)
 
 -- nothing where all is done
 abbrev pub status_line : Status → List ℕ

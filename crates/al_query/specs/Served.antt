@@ -1,13 +1,14 @@
 -- What the words and the files ask for: which status is due, and what is to be written.
-use Rattle.std.specs.Prelude.{◌≡◌, ◌⊎◌, ℕ, ◌<◌, ◌≤◌, ◌==◌, Bool, true, false, List, [], ◌∷◌, length, Option, Some, None, Result, Ok, Err, IsErr, codes}
+use Rattle.std.specs.Prelude.{◌≡◌, ◌⊎◌, ◌<◌, ◌≤◌, ◌==◌, Bool, true, false, List, [], ◌∷◌, length, Option, Some, None, Result, Ok, Err, codes}
 use Rattle.al_value.specs.declared.value.Value.{Value}
 use Rattle.al_io.specs.Outside.{Bytes, Files}
 use Rattle.al_csv.specs.Records.{records}
 use Rattle.al_query.specs.declared.status.RefusedKind.{RefusedKind}
 use Rattle.al_query.specs.declared.status.RefusedKind.TheVariants as refused
 use Rattle.al_query.specs.declared.status.Refused.{Refused}
-use Rattle.al_query.specs.declared.status.DataKind.{DataKind}
-use Rattle.al_query.specs.declared.status.DataKind.TheVariants as kind
+use Rattle.al_csv.specs.declared.refused.DataKind.{DataKind}
+use Rattle.al_csv.specs.declared.refused.DataKind.TheVariants as kind
+use Rattle.al_csv.specs.declared.refused.BadRecord.{BadRecord}
 use Rattle.al_query.specs.declared.status.DataRefused.{DataRefused}
 use Rattle.al_query.specs.declared.status.Status.{Status}
 use Rattle.al_query.specs.declared.status.Status.TheVariants as St
@@ -41,17 +42,19 @@ IsPlanRefused file r = (r.place ≡ 0) × IsRefusedAs r.kind file
 abbrev pub IsData : ThinFile → Option Bytes → List (List Value) → Type 0
 IsData f file rows = (bytes : Bytes) × (file ≡ Some bytes) × (length bytes ≤ 33554432) × (records (decl_of f).columns bytes ≡ Ok rows)
 
--- too many bytes, or a bad record
-abbrev pub IsBadData : ThinFile → Bytes → Type 0
-IsBadData f bytes = (33554432 < length bytes) ⊎ IsErr (records (decl_of f).columns bytes)
+-- what is wrong with a whole file
+abbrev pub of_file : DataKind → BadRecord
+of_file k = record { kind = k; number = 0; column = 0 }
 
--- why a data file is refused: it is absent, or it is there and its data is bad
-abbrev pub IsDataRefusedAs : DataKind → ThinFile → Option Bytes → Type 0
-IsDataRefusedAs kind.Absent f file = file ≡ None
-IsDataRefusedAs kind.BadData f file = (bytes : Bytes) × (file ≡ Some bytes) × IsBadData f bytes
+-- why a data file is refused: it is absent, it passes the limit, or it has a bad record, of which the first counts
+pub data IsBadData (f : ThinFile) (file : Option Bytes) (bad : BadRecord) : Type 0 where
+  absent : file ≡ None → bad ≡ of_file kind.Absent → IsBadData f file bad
+  too_large : (bytes : Bytes) → file ≡ Some bytes → 33554432 < length bytes → bad ≡ of_file kind.TooLarge → IsBadData f file bad
+  bad_record : (bytes : Bytes) → file ≡ Some bytes → length bytes ≤ 33554432 → records (decl_of f).columns bytes ≡ Err bad → IsBadData f file bad
 
-abbrev pub IsDataRefused : ThinFile → Option Bytes → DataRefused → Type 0
-IsDataRefused f file d = (d.file ≡ f.file) × IsDataRefusedAs d.kind f file
+pub record IsDataRefused (f : ThinFile) (file : Option Bytes) (d : DataRefused) : Type 0 where
+  pub named : d.file ≡ f.file
+  pub is : IsBadData f file d.bad
 
 -- the plan file and the data file are good
 abbrev pub IsGood : Files → Bytes → Type 0
@@ -124,7 +127,7 @@ abbrev pub IsDueOrFault : Status → Status → Type 0
 IsDueOrFault due status = (status ≡ due) ⊎ (is_settled status ≡ false)
 
 -- a refusal of this data file, or want of memory
-abbrev pub IsDataRefusedOf : Bytes → DataKind → Status → Type 0
-IsDataRefusedOf name k (St.DataRefused d) = (d.file ≡ name) × (d.kind ≡ k)
-IsDataRefusedOf name k St.NoMemory = Unit {0}
-IsDataRefusedOf name k _ = ⊥
+abbrev pub Refuses : Bytes → BadRecord → Status → Type 0
+Refuses name bad (St.DataRefused d) = (d.file ≡ name) × (d.bad ≡ bad)
+Refuses name bad St.NoMemory = Unit {0}
+Refuses name bad _ = ⊥

@@ -55,6 +55,8 @@ printed f =
 abbrev pub AreDistinct : List (List ℕ) → Type 0
 AreDistinct names = AllPairs (λ v w. v ≢ w) names
 
+-- each piece is in order, and the file is accepted; the select's variable and those of the result
+-- are names, since they are among the scan's
 pub record IsThin (f : ThinFile) : Type 0 where
   pub set : IsName f.set
   pub file : IsString f.file

@@ -2,12 +2,12 @@ ghost use Rattle.std.specs.Prelude.{◌≡◌, ◌≢◌, ◌⊎◌, ◌↔◌, 
 ghost use Rattle.al_io.specs.Outside.{Bytes, Counted, GainsPrefix, Rose, Told};
 ghost use Rattle.al_query.specs.declared.status.Status.{Status as Ended};
 ghost use Rattle.al_query.specs.Lines.{status_line};
-ghost use Rattle.al_query.specs.Served.{IsDataRefusedOf, IsDue, IsDueOrFault, IsGood, IsServed, IsStep, IsStop, TellsAnswer, TellsData, TellsPlan, is_settled, is_source_fault};
+ghost use Rattle.al_query.specs.Served.{IsDue, IsDueOrFault, IsGood, IsServed, IsStep, IsStop, Refuses, TellsAnswer, TellsData, TellsPlan, is_settled, is_source_fault, of_file};
 
 use crate::answer::{answer_text, declaration};
-use crate::status::{DataKind, DataRefused, Refused, RefusedKind, Status};
+use crate::status::{DataRefused, Refused, RefusedKind, Status};
 use crate::thin::{MAX_PLAN, ThinFile, ThinRefused, read_thin};
-use al_csv::{LoadRefused, load};
+use al_csv::{BadRecord, DataKind, LoadRefused, load};
 use al_io::{FileRead, ReadFault, Sink, Source, read_file, write_whole};
 use al_value::{Failed, List, Name, NoMemory, Row};
 use std::alloc::Global;
@@ -105,7 +105,10 @@ fn answer<S: Source>(alloc: Global, name: &str, source: &mut S) -> Result<List<u
     ensures cause { Counted (is_source_fault result) (S.faults source.old) (S.faults source.new) }
 {
     let file = read_plan(alloc, name, source)?;
-    let rows = read_data(alloc, &file, source)?;
+    let rows = match read_data(alloc, &file, source) {
+        Ok(rows) => rows,
+        Err(status) => return Err(status),
+    };
     match answer_text(alloc, &file, rows.as_slice()) {
         Ok(text) => Ok(text),
         Err(NoMemory) => Err(Status::NoMemory),
@@ -145,8 +148,8 @@ fn read_data<S: Source>(alloc: Global, file: &ThinFile, source: &mut S) -> Resul
 {
     match read_file(alloc, source, file.file.as_str(), MAX_DATA) {
         Ok(FileRead::Bytes(bytes)) => load_data(alloc, file, bytes.as_slice()),
-        Ok(FileRead::TooLarge) => Err(data_refused(alloc, &file.file, DataKind::BadData)),
-        Ok(FileRead::Absent) => Err(data_refused(alloc, &file.file, DataKind::Absent)),
+        Ok(FileRead::TooLarge) => Err(file_refused(alloc, &file.file, DataKind::TooLarge)),
+        Ok(FileRead::Absent) => Err(file_refused(alloc, &file.file, DataKind::Absent)),
         Err(ReadFault::Failed) => Err(Status::SourceFault),
         Err(ReadFault::NoMemory) => Err(Status::NoMemory),
     }
@@ -162,16 +165,28 @@ fn load_data(alloc: Global, file: &ThinFile, bytes: &[u8]) -> Result<List<Row>, 
     };
     match load(alloc, &decl, bytes) {
         Ok(rows) => Ok(rows),
-        Err(LoadRefused::Bad(_)) => Err(data_refused(alloc, &file.file, DataKind::BadData)),
+        Err(LoadRefused::Bad(bad)) => Err(data_refused(alloc, &file.file, bad)),
         Err(LoadRefused::NoMemory) => Err(Status::NoMemory),
     }
 }
 
-fn data_refused(alloc: Global, file: &Name, kind: DataKind) -> Status
-    ensures { IsDataRefusedOf file.now kind result }
+/// The refusal of a whole data file.
+fn file_refused(alloc: Global, file: &Name, kind: DataKind) -> Status
+    ensures { Refuses file.now (of_file kind) result }
+{
+    let bad = BadRecord {
+        kind,
+        number: 0,
+        column: 0,
+    };
+    data_refused(alloc, file, bad)
+}
+
+fn data_refused(alloc: Global, file: &Name, bad: BadRecord) -> Status
+    ensures { Refuses file.now bad result }
 {
     match file.copy(alloc) {
-        Ok(file) => Status::DataRefused(DataRefused { file, kind }),
+        Ok(file) => Status::DataRefused(DataRefused { file, bad }),
         Err(NoMemory) => Status::NoMemory,
     }
 }

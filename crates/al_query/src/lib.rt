@@ -7,7 +7,7 @@ mod status;
 mod thin;
 
 pub use command::plain_command;
-pub use status::{DataKind, DataRefused, Refused, RefusedKind, Status};
+pub use status::{DataRefused, Refused, RefusedKind, Status};
 pub use thin::{MAX_PLAN, ThinFile, ThinRefused, read_thin};
 
 #[cfg(test)]

@@ -1,7 +1,8 @@
 ghost use Rattle.std.specs.Prelude.{◌≡◌, ◌++◌, Some, OnOk, OnErr};
 ghost use Rattle.al_io.specs.Outside.{Counted, failed, Told, GainsPrefix};
-ghost use Rattle.al_query.specs.Lines.{code_of, data_kind_name, data_line, plan_line, refused_kind_name, status_line};
+ghost use Rattle.al_query.specs.Lines.{code_of, data_kind_name, data_line, place_line, plan_line, refused_kind_name, status_line};
 
+use al_csv::{BadRecord, DataKind};
 use al_io::{Sink, write_pieces, write_whole};
 use al_value::{Failed, Name};
 use itoa::Buffer;
@@ -33,31 +34,26 @@ pub struct Refused {
     pub place: u32,
 }
 
-/// What is wrong with a data file.
-#[derive(Clone, Copy, Debug, PartialEq, Eq)]
-pub enum DataKind {
-    /// There is no such file.
-    Absent,
-    /// It has too many bytes or a bad record.
-    BadData,
-}
-
-impl DataKind {
-    fn name(self) -> &'static str
-        ensures { result.now ≡ data_kind_name self }
-    {
-        match self {
-            DataKind::Absent => "Absent",
-            DataKind::BadData => "BadData",
-        }
-    }
-}
-
-/// A data file that is refused, by the name that the plan file gives it.
+/// A data file that is refused, by the name that the plan file gives it, and its first bad
+/// record. Record 0 and column 0 stand for the whole file.
 #[derive(Debug, Drop)]
 pub struct DataRefused {
     pub file: Name,
-    pub kind: DataKind,
+    pub bad: BadRecord,
+}
+
+fn data_kind_name(kind: DataKind) -> &'static str
+    ensures { result.now ≡ data_kind_name kind }
+{
+    match kind {
+        DataKind::Absent => "Absent",
+        DataKind::TooLarge => "TooLarge",
+        DataKind::BadCount => "BadCount",
+        DataKind::BadInt => "BadInt",
+        DataKind::BadBool => "BadBool",
+        DataKind::BadUtf8 => "BadUtf8",
+        DataKind::TooLong => "TooLong",
+    }
 }
 
 /// How a command ended.
@@ -123,16 +119,48 @@ fn write_data_refused<E: Sink>(refused: &DataRefused, err: &mut E) -> Result<(),
     ensures part { OnErr result (Told (E.written err.old) (λ old. GainsPrefix old (data_line refused.now) (E.written err.new))) }
     ensures cause { Counted (failed result) (E.faults err.old) (E.faults err.new) }
 {
-    let file = refused.file.as_str().as_bytes();
-    let kind = refused.kind.name().as_bytes();
-    write_refusal(
-        b"data refused: ",
-        file,
-        b": ",
-        kind,
-        b" record 0 column 0\n",
-        err,
-    )
+    let mut number_buffer = Buffer::new();
+    let mut column_buffer = Buffer::new();
+    let place = Place {
+        file: refused.file.as_str().as_bytes(),
+        kind: data_kind_name(refused.bad.kind).as_bytes(),
+        number: number_buffer.format(refused.bad.number).as_bytes(),
+        column: column_buffer.format(refused.bad.column).as_bytes(),
+    };
+    write_place(&place, err)
+}
+
+/// The particulars of a data file's refusal, as they are printed.
+#[derive(Clone, Copy)]
+struct Place<'a> {
+    file: &'a [u8],
+    kind: &'a [u8],
+    number: &'a [u8],
+    column: &'a [u8],
+}
+
+fn write_place<'a, E: Sink>(place: &Place<'a>, err: &mut E) -> Result<(), Failed>
+    ensures ok { OnOk result (Told (E.written err.old) (λ old. E.written err.new ≡ Some (old ++ place_line place.now.file.now place.now.kind.now place.now.number.now place.now.column.now))) }
+    ensures part { OnErr result (Told (E.written err.old) (λ old. GainsPrefix old (place_line place.now.file.now place.now.kind.now place.now.number.now place.now.column.now) (E.written err.new))) }
+    ensures cause { Counted (failed result) (E.faults err.old) (E.faults err.new) }
+{
+    let refused: &'a [u8] = b"data refused: ";
+    let colon: &'a [u8] = b": ";
+    let record: &'a [u8] = b" record ";
+    let column: &'a [u8] = b" column ";
+    let end: &'a [u8] = b"\n";
+    let pieces = [
+        refused,
+        place.file,
+        colon,
+        place.kind,
+        record,
+        place.number,
+        column,
+        place.column,
+        end,
+    ];
+    write_pieces(err, &pieces)
 }
 
 /// Writes the line of a refusal: what is refused, and two particulars with what stands between

@@ -99,7 +99,7 @@ fn refuses_plans(rt: HostRuntime) -> Result<(), Fail> {
 
 #[test]
 fn refuses_data(rt: HostRuntime) -> Result<(), Fail> {
-    let bad = "data refused: t.csv: BadData record 0 column 0\n";
+    let bad = "data refused: t.csv: BadCount record 2 column 0\n";
     expect(&rt, &Case::step(PLAN, "a,b\nx,1\nx\n"), 3, "", bad)?;
     let mut case = Case::step(PLAN, DATA);
     case.data = None;

@@ -1,4 +1,4 @@
-ghost use Rattle.std.specs.Prelude.{◌≡◌, ◌≢◌, ◌↔◌, ◌++◌, [], ◌∷◌, ◌≤◌, ℤ, length, IfOk, IfSome, OnOk, OnErr, Err, FitsSigned, IsNone};
+ghost use Rattle.std.specs.Prelude.{◌≡◌, ◌≢◌, ◌↔◌, ◌++◌, [], ◌∷◌, ◌+◌, ◌<◌, ◌≤◌, ℤ, length, vec_len, vec_capacity, IfOk, IfSome, OnOk, OnErr, Err, FitsSigned, IsNone};
 ghost use Rattle.std.specs.Int.{w64};
 ghost use Rattle.std.specs.Ordering.{nat_cmp};
 ghost use Rattle.std.specs.Cmp.Lexicographic.{slice_cmp};
@@ -41,6 +41,7 @@ pub enum FieldFault {
 pub fn put_field(v: &Value, out: &mut Vec<u8>) -> Result<(), NoMemory>
     ensures ok { OnOk result (out.new.items ≡ out.old.items ++ field_bytes v.now) }
     ensures err { OnErr result (out.new.items ≡ out.old.items) }
+    ensures full { OnErr result (vec_capacity out.old < vec_len out.old + length (field_bytes v.now)) }
 {
     match v {
         Value::Null => out.push(NULL_TAG)?,
@@ -57,6 +58,7 @@ fn put_tagged(tag: u8, rest: &[u8], out: &mut Vec<u8>) -> Result<(), NoMemory>
     requires { length rest.now ≤ MAX_TEXT }
     ensures ok { OnOk result (out.new.items ≡ out.old.items ++ tag ∷ rest.now) }
     ensures err { OnErr result (out.new.items ≡ out.old.items) }
+    ensures full { OnErr result (vec_capacity out.old < vec_len out.old + (1 + length rest.now)) }
 {
     out.reserve(1 + rest.len())?;
     out.push_reserved(tag);

@@ -1,6 +1,6 @@
 use crate::{
-    FieldFault, List, Name, Row, Text, TextFault, Value, cmp_fields, cmp_values, copy_rows, eq3,
-    get_field, hash_add, hash_start, put_field,
+    Boxed, FieldFault, List, Name, Row, Text, TextFault, Value, cmp_fields, cmp_values, copy_rows,
+    eq3, get_field, hash_add, hash_start, put_field,
 };
 use std::alloc::Global;
 use std::cmp::Ordering;
@@ -14,6 +14,20 @@ fn lists(rt: HostRuntime) -> Result<(), Fail> {
     assert_eq!(rt; list.as_slice(), [1, 97, 98].as_slice());
     assert_eq!(rt; list.pop(), Some(98));
     assert_eq!(rt; list.len(), 2);
+    Ok(())
+}
+
+#[test]
+fn boxes_and_vectors(rt: HostRuntime) -> Result<(), Fail> {
+    let three = Boxed::new(rt.alloc(), 3u8)?;
+    assert_eq!(rt; *three.get(), 3);
+    assert!(rt; three == Boxed::new(rt.alloc(), 3u8)?);
+    assert_eq!(rt; three.into_inner(), 3);
+    let list = List::from_vec([1u8, 2].to_vec(rt.alloc())?);
+    assert!(rt; list == List::from_vec([1u8, 2].to_vec(rt.alloc())?));
+    assert_eq!(rt; list.into_vec().as_slice(), [1, 2].as_slice());
+    let row = Row::from_list(List::from_vec(vec![in rt.alloc(); Value::Null]?));
+    assert_eq!(rt; row.len(), 1);
     Ok(())
 }
 

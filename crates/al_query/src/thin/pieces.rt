@@ -1,6 +1,6 @@
 //! The pieces of a line: words that stand there as they are, names, strings and lists of names.
 
-ghost use Rattle.std.specs.Prelude.{◌≡◌, length, MatchOption, Some, None, IfOk, ◌≤◌, false, true};
+ghost use Rattle.std.specs.Prelude.{◌≡◌, length, MatchOption, Some, None, IfOk, IsErrOf, ◌≤◌, false, true};
 ghost use Rattle.std.specs.Str.{is_utf8};
 ghost use Rattle.std.specs.List.{prefix_len};
 ghost use Rattle.al_query.specs.Thin as form;
@@ -22,7 +22,8 @@ fn after_word<'a>(bytes: &'a [u8], word: &[u8]) -> Option<&'a [u8]>
 
 /// What stands behind the word.
 pub fn literal<'a>(bytes: &'a [u8], word: &[u8]) -> Result<&'a [u8], ThinRefused>
-    ensures { reading.Gives (λ rest. rest.now) result (reading.literal_at word.now bytes.now) }
+    ensures rest { reading.Gives (λ rest. rest.now) result (reading.literal_at word.now bytes.now) }
+    ensures room { IsErrOf result ThinRefused.NoMemory → ⊥ }
 {
     after_word(bytes, word).ok_or(ThinRefused::NotThin)
 }
@@ -91,6 +92,7 @@ pub fn name_of(alloc: Global, bytes: &[u8]) -> Result<(Name, &[u8]), ThinRefused
 fn content_of(bytes: &[u8]) -> Result<(&str, &[u8]), ThinRefused>
     ensures content { reading.Gives (λ x. (x.0.now, x.1.now)) result (reading.content_at bytes.now) }
     ensures short { IfOk result (λ x. length x.0.now ≤ MAX_TEXT) }
+    ensures room { IsErrOf result ThinRefused.NoMemory → ⊥ }
 {
     let (front, rest) = bytes.split_at(string_len(bytes));
     if front.len() > MAX_TEXT {
@@ -106,6 +108,7 @@ fn content_of(bytes: &[u8]) -> Result<(&str, &[u8]), ThinRefused>
 fn quoted(bytes: &[u8]) -> Result<(&str, &[u8]), ThinRefused>
     ensures content { reading.Gives (λ x. (x.0.now, x.1.now)) result (reading.string_at bytes.now) }
     ensures short { IfOk result (λ x. length x.0.now ≤ MAX_TEXT) }
+    ensures room { IsErrOf result ThinRefused.NoMemory → ⊥ }
 {
     let rest = literal(bytes, b" \"")?;
     let (text, rest) = content_of(rest)?;

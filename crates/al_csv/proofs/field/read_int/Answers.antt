@@ -1,4 +1,4 @@
-use Rattle.std.proofs.Common.{rules, sym, ◌≡◌}
+use Rattle.std.proofs.Common.{sym}
 use Rattle.al_csv.proofs.FieldLaws.{int_not_text, int_parsed, int_refused}
 use Rattle.al_csv.proofs.field.read_int.Goals as goal
 

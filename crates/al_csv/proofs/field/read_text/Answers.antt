@@ -1,4 +1,4 @@
-use Rattle.std.proofs.Common.{sym, ap, Err, ◌≡◌, length}
+use Rattle.std.proofs.Common.{sym, ap, Err}
 use Rattle.al_value.specs.declared.text.TextFault.{TextFault}
 use Rattle.al_csv.proofs.FieldLaws.{text_bad, text_good, text_long}
 use Rattle.al_csv.proofs.field.read_text.Goals as goal

@@ -1,12 +1,10 @@
-use Rattle.std.proofs.Common.{rules, ◌≡◌, ◌∙◌, ◌++◌, ◌+◌, ◌<◌, None, Some, Ok, ℕ, length, drop, List, [], ◌∷◌, Bor, refl, sym, ap, inl, inr, arith}
+use Rattle.std.proofs.Common.{◌≡◌, ◌∙◌, ◌++◌, ◌<◌, Some, ℕ, length, drop, List, [], ◌∷◌, Bor, refl, sym, inl, inr, arith}
 use Rattle.std.proofs.lemmas.Result.{err_from_is_err_and}
 use Rattle.csv.specs.Records.{fields_of}
-use Rattle.csv.specs.Reading.{Reached, default_config, records as csv_records, strip_bom}
+use Rattle.csv.specs.Reading.{Reached, default_config, strip_bom}
 use Rattle.csv.specs.declared.parser.State.TheVariants as st
 use Rattle.csv.proofs.ReadFacts.{rows-end, rows-more}
-use Rattle.al_csv.specs.Records.{Tells, all_ok, row_of}
-use Rattle.al_csv.proofs.AllOk.{all_ok_none}
-use Rattle.al_csv.proofs.Rows.{drop_first, longer, rows_end, rows_from, rows_next, rows_none, rows_wide, tells_stop}
+use Rattle.al_csv.proofs.Rows.{drop_first, longer, rows_end, rows_next, rows_none, rows_wide, tells_stop}
 use Rattle.al_csv.proofs.Walks.{records_all, records_begin}
 use Rattle.al_csv.proofs.records.load.Goals as goal
 use Rattle.al_csv.proofs.records.load.Goals.{then-number-gt0+in_ok-read_row+in_ok-push, else-number-gt0}
@@ -16,8 +14,7 @@ unfolding Reached
 loop-number-init c =
     let made = c.from_reader-reader.ensures in
     let headers = c.has_headers.ensures in
-    let flexible = c.flexible.ensures in
-    (
+    let flexible = c.flexible.ensures in (
       rw (flexible, headers) at made.trim ∙ c.new.ensures.trim,
       inr (inr (rw (flexible, headers) at made.has_headers, made.headers)),
       rw (flexible, headers) at made.config ∙ c.new.ensures.config,
@@ -63,8 +60,7 @@ loop-number-preserved c =
     elim c.if-number-gt0.branch [
       | then-number-gt0+in_ok-read_row+in_ok-push w ↦
           let some_seen : 0 < length seen = omega arith in
-          let here = rw w.as_slice.ensures at w.in_ok-read_row.ensures.row in
-          (
+          let here = rw w.as_slice.ensures at w.in_ok-read_row.ensures.row in (
             read.3 ∙ trim,
             inl (c.in-Ok-true.ensures.ready trim),
             read.2 ∙ config,
@@ -77,8 +73,7 @@ loop-number-preserved c =
           )
       | else-number-gt0 w ↦
           let none_seen : length seen ≡ 0 = omega arith in
-          let cut = drop_first seen f none_seen in
-          (
+          let cut = drop_first seen f none_seen in (
             read.3 ∙ trim,
             inl (c.in-Ok-true.ensures.ready trim),
             read.2 ∙ config,

@@ -1,4 +1,4 @@
-use Rattle.std.proofs.Common.{◌≡◌, length, take, Ok}
+use Rattle.std.proofs.Common.{◌≡◌, take, Ok}
 use Rattle.csv.specs.Records.{fields_of}
 use Rattle.al_csv.specs.Records.{all_ok}
 use Rattle.al_csv.proofs.Cells.{cells}

@@ -1,4 +1,4 @@
-use Rattle.std.proofs.Common.{◌≡◌, ◌++◌, ◌∷◌, [], ◌∙◌, ℕ, List, map, take, true, refl, sym, ap, subst}
+use Rattle.std.proofs.Common.{◌∷◌, [], ◌∙◌, ℕ, List, map, take, true, refl, sym, ap, subst}
 use Rattle.csv.specs.Records.{fields_of}
 use Rattle.csv.specs.Writing.{with_flexible}
 use Rattle.csv.specs.declared.writer.WriterBuilder.{WriterBuilder}
@@ -13,7 +13,7 @@ loop-row-init c =
     let made = c.from_writer-writer.ensures in
     let setup = ap (λ (b : WriterBuilder). with_flexible b true) c.new.ensures in
     let none : Wrote c.from_writer-writer.result [] =
-        (rw (made.wtr, made.empty, c.new-2.ensures.items) refl, made.cfg ∙ c.flexible.ensures ∙ setup, made.fields, made.wrote) in
+    (rw (made.wtr, made.empty, c.new-2.ensures.items) refl, made.cfg ∙ c.flexible.ensures ∙ setup, made.fields, made.wrote) in
     let first = c.in_ok-write_line.ensures [] none in
     let text = ap line c.in_ok-fill_names.ensures ∙ sym (lines_one c.args.names.now) in
     subst (λ (t : List ℕ). Wrote c.write_line.new.writer t) text first

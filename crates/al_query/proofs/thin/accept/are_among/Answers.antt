@@ -1,4 +1,4 @@
-use Rattle.std.proofs.Common.{All, Contains, refl, subst, rules, sym}
+use Rattle.std.proofs.Common.{refl}
 use Rattle.std.proofs.lemmas.Bool.{iff_false, false≢true}
 use Rattle.al_query.proofs.ThinAccept.{among_more, not_among, among_all}
 use Rattle.al_query.proofs.thin.accept.are_among.Goals as goal

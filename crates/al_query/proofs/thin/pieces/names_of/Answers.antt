@@ -1,7 +1,7 @@
-use Rattle.std.proofs.Common.{ℕ, List, ◌++◌, ◌∷◌, [], sym, subst, arith, length}
+use Rattle.std.proofs.Common.{arith, length}
 use Rattle.std.proofs.lemmas.Result.{err_from_is_err_and}
 use Rattle.al_query.specs.ThinReading.{names_at}
-use Rattle.al_query.proofs.ThinNames.{GoesOn, goes_on, is_done, ends, name_shorter, literal_shorter}
+use Rattle.al_query.proofs.ThinNames.{goes_on, is_done, ends, name_shorter, literal_shorter}
 use Rattle.al_query.proofs.thin.pieces.names_of.Goals as goal
 
 pub returns-in_err-name : goal.returns-in_err-name
