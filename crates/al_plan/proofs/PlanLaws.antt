@@ -1,6 +1,5 @@
 -- What `live`, `ordered`, `Allows` and `Faults` say at each operator.
 use Rattle.std.proofs.Common.{◌≡◌, ℕ, Bool, List, [], ◌∷◌, ◌++◌, map, refl, ap, sym, subst, ◌∙◌}
-use Rattle.al_value.specs.declared.value.Value.{Value}
 use Rattle.al_plan.specs.declared.expr.Var.{Var}
 use Rattle.al_plan.specs.declared.expr.Expr.{Expr}
 use Rattle.al_plan.specs.declared.plan.OrderKey.{OrderKey}

@@ -1,6 +1,5 @@
 -- What a refusal of a data file tells, step by step up to the command.
-use Rattle.std.proofs.Common.{◌≡◌, ◌≤◌, List, length, Option, None, Some, Result, Ok, Err, refl, ap, sym, subst, ◌∙◌}
-use Rattle.al_value.specs.declared.value.Value.{Value}
+use Rattle.std.proofs.Common.{◌≡◌, ◌≤◌, List, length, Option, None, Some, Ok, Err, refl, ap, sym, subst, ◌∙◌}
 use Rattle.al_io.specs.Outside.{Bytes, Files, Told}
 use Rattle.al_io.specs.FileRead.{TellsFile}
 use Rattle.al_io.specs.declared.source.FileRead.TheVariants as found
@@ -12,7 +11,7 @@ use Rattle.al_query.specs.declared.status.Status.{Status}
 use Rattle.al_query.specs.declared.status.Status.TheVariants as St
 use Rattle.al_query.specs.declared.thin.ThinFile.{ThinFile}
 use Rattle.al_query.specs.ThinPlan.{decl_of}
-use Rattle.al_query.specs.Served.{IsStep, IsPlan, IsBadData, too_large, bad_record, IsDue, IsStop, Refuses, TellsPlan, TellsData, TellsAnswer, of_file}
+use Rattle.al_query.specs.Served.{IsStep, IsPlan, IsBadData, too_large, bad_record, IsDue, Refuses, TellsPlan, TellsData, TellsAnswer, of_file}
 
 pub told_both : {X : Type 0} (o : Option X) (P Q R : X → Type 0) → Told o P → Told o Q → ((x : X) → P x → Q x → R x) → Told o R
 told_both None P Q R h k f = tt

@@ -1,19 +1,18 @@
 -- The rows that the code makes are an answer of the thin form's plan.
-use Rattle.std.proofs.Common.{◌≡◌, ℕ, Bool, true, false, List, [], ◌∷◌, map, filter, length, get_or, refl, ap, sym, subst, ◌∙◌}
-use Rattle.std.specs.Prelude.{nat_eq, if◌then◌else◌, Result, Ok, Err, IfOk}
+use Rattle.std.proofs.Common.{◌≡◌, Bool, false, List, [], ◌∷◌, map, filter, length, get_or, refl, ap, sym, subst, ◌∙◌}
+use Rattle.std.specs.Prelude.{if◌then◌else◌, Result, Ok, Err, IfOk}
 use Rattle.std.specs.List.{All}
 use Rattle.std.specs.List.Sorted.{IsPermutation}
-use Rattle.std.specs.Cmp.Lexicographic.{pointwise, bytes_decides}
+use Rattle.std.specs.Cmp.Lexicographic.{bytes_decides}
 use Rattle.std.proofs.lemmas.List.{length-map}
 use Rattle.std.proofs.lemmas.List.Elements.{All-map}
 use Rattle.std.proofs.lemmas.List.Sorted.{IsPermutation-refl}
 use Rattle.al_value.specs.declared.value.Value.{Value}
 use Rattle.al_csv.specs.OutText.{out_text}
 use Rattle.al_plan.specs.declared.expr.Var.{Var}
-use Rattle.al_plan.specs.declared.plan.Plan.{Plan}
 use Rattle.al_plan.specs.declared.plan.Plan.TheVariants as P
 use Rattle.al_plan.specs.Eval.{Bytes, Env, bind, holds}
-use Rattle.al_plan.specs.Allows.{Sets, Allows, cut, live}
+use Rattle.al_plan.specs.Allows.{Allows, cut, live}
 use Rattle.al_plan.proofs.PlanLaws.{allows_Scan, allows_Select, allows_Result, live-Result}
 use Rattle.al_plan.proofs.RowLaws.{bind-cut, map-filter}
 use Rattle.al_query.specs.declared.thin.ThinFile.{ThinFile}

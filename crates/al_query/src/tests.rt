@@ -10,6 +10,7 @@ const DATA: &str = "a,b\nx,1\ny,2\nx,3\n";
 
 /// What a command is given: its words, the plan file `p` and the data file `t.csv` where they are
 /// there, the source's call that fails, and the room of `out`.
+#[derive(Clone, Copy)]
 struct Case<'a> {
     words: &'a [&'a str],
     plan: Option<&'a str>,
@@ -19,6 +20,16 @@ struct Case<'a> {
 }
 
 impl<'a> Case<'a> {
+    fn of_words(words: &'a [&'a str]) -> Case<'a> {
+        Case {
+            words,
+            plan: Some(PLAN),
+            data: Some(DATA),
+            failing: None,
+            room: 100,
+        }
+    }
+
     fn step(plan: &'a str, data: &'a str) -> Case<'a> {
         Case {
             words: &["step", "p"],
@@ -76,13 +87,9 @@ fn answers(rt: HostRuntime) -> Result<(), Fail> {
 #[test]
 fn refuses_words(rt: HostRuntime) -> Result<(), Fail> {
     let usage = "usage: algebricks COMMAND ARGUMENTS [OPTIONS]\n";
-    let mut case = Case::step(PLAN, DATA);
-    case.words = &["step"];
-    expect(&rt, &case, 1, "", usage)?;
-    case.words = &["step", "-p"];
-    expect(&rt, &case, 1, "", usage)?;
-    case.words = &["plain", "p"];
-    expect(&rt, &case, 1, "", usage)
+    expect(&rt, &Case::of_words(&["step"]), 1, "", usage)?;
+    expect(&rt, &Case::of_words(&["step", "-p"]), 1, "", usage)?;
+    expect(&rt, &Case::of_words(&["plain", "p"]), 1, "", usage)
 }
 
 #[test]
