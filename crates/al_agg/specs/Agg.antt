@@ -12,9 +12,17 @@ use Rattle.al_agg.specs.declared.agg.Agg.TheVariants as A
 abbrev pub is_i64 : ℤ → Bool
 is_i64 z = int_le (negsuc (2 ^ 63 - 1)) z && int_le z (pos (2 ^ 63 - 1))
 
--- a signed number modulo 2^128 as a value, with NULL for one past 64 bits
+-- a number as a value, with NULL for one past 64 bits
+abbrev pub fitted : ℤ → Value
+fitted z = if is_i64 z then V.Int z else V.Null
+
+-- a signed number modulo 2^128
+abbrev pub wrapped : ℤ → ℤ
+wrapped z = int_wrap w128 z
+
+-- a signed number modulo 2^128 as a value
 abbrev pub counted : ℤ → Value
-counted z = if is_i64 (int_wrap w128 z) then V.Int (int_wrap w128 z) else V.Null
+counted z = fitted (wrapped z)
 
 abbrev pub is_null : Value → Bool
 is_null V.Null = true

@@ -1,1 +1,2 @@
 pub mod Agg
+pub mod Part

@@ -2,5 +2,13 @@
 #![tactic(auto)]
 
 mod agg;
+mod extreme;
+mod number;
+mod part;
+mod state;
 
 pub use agg::Agg;
+pub use part::{Part, PartFault, add, finish, get_part, join, put_part, start, width};
+
+#[cfg(test)]
+mod tests;

@@ -76,14 +76,14 @@ at_most a b = truth (cmp3 is_at_most a b)
 
 -- ---- logic with three answers
 
--- FALSE where one is FALSE, TRUE where both are TRUE, else NULL
+-- Kleene's: one FALSE makes it FALSE, two TRUE make it TRUE, and all else is unknown
 abbrev pub and3 : Value → Value → Value
 and3 (V.Bool false) _ = V.Bool false
 and3 _ (V.Bool false) = V.Bool false
 and3 (V.Bool true) (V.Bool true) = V.Bool true
 and3 _ _ = V.Null
 
--- TRUE where one is TRUE, FALSE where both are FALSE, else NULL
+-- Kleene's: one TRUE makes it TRUE, two FALSE make it FALSE, and all else is unknown
 abbrev pub or3 : Value → Value → Value
 or3 (V.Bool true) _ = V.Bool true
 or3 _ (V.Bool true) = V.Bool true

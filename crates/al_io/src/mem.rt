@@ -157,7 +157,9 @@ pub struct MemSink {
 
 impl MemSink {
     /// Reserves the room for as many bytes.
-    pub fn new(alloc: Global, room: usize) -> Result<MemSink, NoMemory> {
+    pub fn new(alloc: Global, room: usize) -> Result<MemSink, NoMemory>
+        ensures { IfOk result (λ s. (s.bytes.items ≡ []) × (s.room ≡ room) × (s.faults ≡ 0)) }
+    {
         Ok(MemSink {
             bytes: Vec::with_capacity(alloc, room)?,
             room,

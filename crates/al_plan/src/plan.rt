@@ -27,7 +27,7 @@ pub enum Generator {
 }
 
 /// A logical plan, in the sense of Algebricks (Borkar et al., SoCC 2015): a tree of operators
-/// over variables. A pair of `keys` is the new key and the old variable.
+/// over variables. Each of `keys` pairs a new variable with the one whose values it takes.
 #[derive(Debug, PartialEq, Drop)]
 pub enum Plan {
     Scan {

@@ -1,0 +1,4 @@
+pub mod AggLaws
+pub mod HalfLaws
+pub mod PartLaws
+pub mod FieldLaws
