@@ -1,17 +1,18 @@
 -- The aggregates of one list behind another.
-use Rattle.std.specs.Prelude.{ℕ, ℤ, pos, negsuc, ◌+ℤ◌, ◌+◌, Bool, true, false, not, ◌&&◌, ◌||◌, ◌⊎◌, Option, Some, None, List, [], ◌∷◌, ◌++◌, if◌then◌else◌, length, filter, FitsSigned}
-use Rattle.std.specs.Int.{int_wrap, w128}
+use Rattle.std.specs.Prelude.{All, ℕ, ℤ, pos, ◌+ℤ◌, ◌+◌, Bool, true, false, not, ◌&&◌, ◌||◌, ◌⊎◌, Some, List, [], ◌∷◌, ◌++◌, if◌then◌else◌, FitsSigned}
+use Rattle.std.specs.Int.{w128}
 use Rattle.std.specs.Ordering.{ordering_reverse}
 use Rattle.std.specs.declared.cmp.Ordering.{Ordering}
 use Rattle.std.specs.declared.cmp.Ordering.TheVariants.{Less, Equal, Greater}
-use Rattle.std.proofs.Common.{◌≡◌, refl, sym, ◌∙◌, ap, inl, inr, arith, append-nil}
+use Rattle.std.proofs.Common.{◌≡◌, refl, sym, ◌∙◌, ap, subst, inl, inr, arith, append-nil}
 use Rattle.std.proofs.lemmas.Bool.{cases_Bool}
+use Rattle.std.proofs.lemmas.List.Elements.{All-head, All-tail}
 use Rattle.std.proofs.lemmas.Int.{ints, int_wrap_fits, int_wrap-add_left, int_wrap-add_right}
 use Rattle.al_value.specs.declared.value.Value.{Value}
 use Rattle.al_value.specs.declared.value.Value.TheVariants as V
-use Rattle.al_value.specs.Value.{value_cmp}
+use Rattle.al_value.specs.Value.{IsValue, value_cmp}
 use Rattle.al_value.proofs.ValueLaws.{value_cmp_total}
-use Rattle.al_agg.specs.Agg.{wrapped, is_null, is_less, lesser, greater, least, greatest, ints_of, total, present}
+use Rattle.al_agg.specs.Agg.{wrapped, is_null, is_less, lesser, greater, least, greatest, ints_of, total}
 use Rattle.al_agg.specs.Part.{some_sum, joined_sums}
 
 -- ---- the order of values
@@ -169,6 +170,24 @@ greatest-one V.Null = refl
 greatest-one (V.Bool b) = refl
 greatest-one (V.Int z) = refl
 greatest-one (V.Text bytes) = refl
+
+picked-valid : (test : Value → Value → Bool) (v w : Value) → IsValue v → IsValue w → IsValue (picked test v w)
+picked-valid test v w p q =
+    elim (cases_Bool (test v w)) [
+      | inl e ↦ subst IsValue (sym (picked-yes test v w e)) q
+      | inr e ↦ subst IsValue (sym (picked-no test v w e)) p
+    ]
+
+-- the least and the greatest of values of the program are values of the program
+pub least-valid : (vs : List Value) → All IsValue vs → IsValue (least vs)
+least-valid [] valid = tt
+least-valid (v ∷ vs) valid =
+    subst IsValue (sym (lesser_is v (least vs))) (picked-valid is_before v (least vs) (All-head IsValue v vs valid) (least-valid vs (All-tail IsValue v vs valid)))
+
+pub greatest-valid : (vs : List Value) → All IsValue vs → IsValue (greatest vs)
+greatest-valid [] valid = tt
+greatest-valid (v ∷ vs) valid =
+    subst IsValue (sym (greater_is v (greatest vs))) (picked-valid (λ a b. is_less (value_cmp a b)) v (greatest vs) (All-head IsValue v vs valid) (greatest-valid vs (All-tail IsValue v vs valid)))
 
 pub ints_of-append : (vs ws : List Value) → ints_of (vs ++ ws) ≡ ints_of vs ++ ints_of ws
 ints_of-append [] ws = refl

@@ -1,6 +1,6 @@
 -- The state fields of a partial state, and the lists that have the same.
-use Rattle.std.specs.Prelude.{◌≡◌, ◌↔◌, ◌⊎◌, ℕ, suc, ◌+◌, ℤ, pos, Bool, true, false, Option, Some, None, IfSome, is_some, unwrap_or, Result, Ok, Err, OnErr, List, [], ◌∷◌, ◌++◌, ◌-◌, length, take, drop, FitsSigned}
-use Rattle.std.specs.Int.{w64, w128, int_wrap}
+use Rattle.std.specs.Prelude.{All, ◌≡◌, ◌↔◌, ◌⊎◌, ℕ, suc, ℤ, pos, Bool, false, Option, Some, None, IfSome, is_some, unwrap_or, Result, Ok, Err, OnErr, List, [], ◌∷◌, ◌++◌, ◌-◌, length, take, drop, FitsSigned}
+use Rattle.std.specs.Int.{w128}
 use Rattle.std.proofs.Common.{refl, sym, ◌∙◌, ap, subst, inl, inr, append_assoc, arith}
 use Rattle.std.proofs.Math.Seq.{take-length}
 use Rattle.std.proofs.lemmas.Int.{SFits-int_wrap}
@@ -8,11 +8,13 @@ use Rattle.al_value.specs.declared.value.Value.{Value}
 use Rattle.al_value.specs.declared.value.Value.TheVariants as V
 use Rattle.al_value.specs.Value.{IsValue}
 use Rattle.al_agg.specs.declared.agg.Agg.{Agg}
+use Rattle.al_agg.specs.declared.agg.Agg.TheVariants as A
 use Rattle.al_agg.specs.declared.part.Part.{Part}
 use Rattle.al_agg.specs.declared.state.State.{State}
 use Rattle.al_agg.specs.declared.state.State.TheVariants as S
-use Rattle.al_agg.specs.Agg.{wrapped, present, ints_of, total, least, greatest}
-use Rattle.al_agg.specs.Part.{high_half, low_half, halves, sum_fields, some_sum, state_fields, state_agg, StateStands, fields_of, Stands, agg_of, part_fields, IsState, AreHalves, GainsSome}
+use Rattle.al_agg.specs.Agg.{wrapped, present, ints_of, total}
+use Rattle.al_agg.specs.Part.{halves, sum_fields, some_sum, state_fields, state_agg, StateStands, fields_of, Stands, agg_of, part_fields, IsState, AreHalves, IsSumState, GainsSome, width}
+use Rattle.al_agg.proofs.AggLaws.{least-valid, greatest-valid}
 use Rattle.al_agg.proofs.HalfLaws.{halves-injective, high_half-fits, low_half-fits, high_half-zero, low_half-zero}
 
 -- what the code keeps: numbers of 128 bits, and values of the program
@@ -78,6 +80,35 @@ sum_stored s sum e fits = subst IsStored (sym e) fits
 
 pub value_stored : (s : State) (v : Value) → (s ≡ S.Min v) ⊎ (s ≡ S.Max v) → IsValue v → IsStored s
 value_stored s v is valid = elim is [ inl e ↦ subst IsStored (sym e) valid | inr e ↦ subst IsStored (sym e) valid ]
+
+-- a state has as many fields as its aggregate says
+sum_width : (sum : Option ℤ) → length (sum_fields sum) ≡ 3
+sum_width None = refl
+sum_width (Some n) = refl
+
+state_width : (s : State) → length (fields_of s) ≡ width (state_agg s)
+state_width (S.CountAll n) = refl
+state_width (S.Count n) = refl
+state_width (S.Sum sum) = sum_width sum
+state_width (S.Min v) = refl
+state_width (S.Max v) = refl
+
+pub part_width : (p : Part) → length (part_fields p) ≡ width (agg_of p)
+unfolding agg_of part_fields
+part_width p = state_width p.state
+
+-- the fields of a list of values are a state
+sum_state : (ns : List ℤ) → IsSumState (sum_fields (some_sum ns))
+sum_state [] = rw (high_half-zero, low_half-zero) refl
+sum_state (n ∷ ns) = halves-are (wrapped (total (n ∷ ns)))
+
+pub fields_of_list : (a : Agg) (vs : List Value) → All IsValue vs → IsState a (state_fields a vs)
+unfolding IsState state_fields
+fields_of_list A.CountAll vs valid = halves-are (wrapped (pos (length vs)))
+fields_of_list A.Count vs valid = halves-are (wrapped (pos (length (present vs))))
+fields_of_list A.Sum vs valid = sum_state (ints_of vs)
+fields_of_list A.Min vs valid = least-valid vs valid
+fields_of_list A.Max vs valid = greatest-valid vs valid
 
 -- a state that has these fields stands for the lists that have them
 pub lists_at : (s : State) (a : Agg) (fields vs : List Value) → IsStored s → state_agg s ≡ a → fields_of s ≡ fields → StateStands s vs ↔ (state_fields a vs ≡ fields)

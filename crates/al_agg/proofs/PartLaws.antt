@@ -1,6 +1,6 @@
 -- The lists that a state stands for, when it takes in a value or another state.
-use Rattle.std.specs.Prelude.{ℕ, ℤ, pos, ◌+ℤ◌, ◌+◌, Bool, true, false, not, Option, Some, None, List, [], ◌∷◌, ◌++◌, if◌then◌else◌, length, filter}
-use Rattle.std.proofs.Common.{◌≡◌, refl, sym, ◌∙◌, ap, arith, length-append, add-zero}
+use Rattle.std.specs.Prelude.{ℕ, ℤ, pos, ◌+ℤ◌, ◌+◌, not, Option, List, [], ◌∷◌, ◌++◌, if◌then◌else◌, length}
+use Rattle.std.proofs.Common.{◌≡◌, sym, ◌∙◌, ap, length-append, add-zero}
 use Rattle.std.proofs.lemmas.List.Elements.{filter-append}
 use Rattle.std.proofs.lemmas.Int.{to_z-of_z}
 use Rattle.al_value.specs.declared.value.Value.{Value}

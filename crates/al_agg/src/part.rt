@@ -1,4 +1,4 @@
-ghost use Rattle.std.specs.Prelude.{◌≡◌, ◌↔◌, ◌∷◌, [], ◌++◌, List, length, take, ℕ, IfOk, OnOk, OnErr, IsErrOf, IfSome, IsTrue, FitsSigned, pos};
+ghost use Rattle.std.specs.Prelude.{All, ◌≡◌, ◌↔◌, ◌∷◌, [], ◌++◌, List, length, take, ℕ, IfOk, OnOk, OnErr, IsErrOf, IfSome, IsTrue, FitsSigned, pos};
 ghost use Rattle.al_value.specs.declared.value.Value.TheVariants as V;
 ghost use Rattle.std.specs.Int.{w128};
 ghost use Rattle.al_value.specs.declared.value.Value.{Value as Cell};
@@ -106,6 +106,7 @@ pub fn finish(p: Part) -> Value
 pub fn width(a: Agg) -> u32
     ensures table { result ≡ spec.width a }
     ensures fields { (vs : List Cell) → length (spec.state_fields a vs) ≡ result }
+    ensures state { (vs : List Cell) → All IsValue vs → spec.IsState a (spec.state_fields a vs) }
 {
     match a {
         Agg::CountAll | Agg::Count => 2,
@@ -115,13 +116,14 @@ pub fn width(a: Agg) -> u32
 }
 
 /// Appends the fields of a state. Where memory runs out, the row holds some of them.
-#[tactic(auto, unfolding(crate::specs::Part::part_fields))]
+#[tactic(auto, using(crate::proofs::FieldLaws::part_width), unfolding(crate::specs::Part::part_fields))]
 pub fn put_part(alloc: Global, p: &Part, out: &mut Row) -> Result<(), NoMemory>
     ensures ok { OnOk result (out.new ≡ out.old ++ spec.part_fields p.now) }
     ensures err { OnErr result (spec.GainsSome out.old out.new (spec.part_fields p.now)) }
 
     // The fields are those of the lists that the state stands for, and of no other lists.
     ensures lists { (vs : List Cell) → spec.Stands p.now vs ↔ (spec.state_fields (spec.agg_of p.now) vs ≡ spec.part_fields p.now) }
+    ensures width { length (spec.part_fields p.now) ≡ spec.width (spec.agg_of p.now) }
     ensures state { spec.IsState (spec.agg_of p.now) (spec.part_fields p.now) }
 {
     match &p.state {

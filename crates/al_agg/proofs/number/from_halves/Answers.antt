@@ -1,6 +1,5 @@
 use Rattle.std.proofs.Common.{arith}
 use Rattle.std.proofs.lemmas.Int.{to_z-of_z}
-use Rattle.al_agg.specs.Part.{low_half, high_half}
 use Rattle.al_agg.proofs.HalfLaws.{high_half-from, low_half-from}
 use Rattle.al_agg.proofs.number.from_halves.Goals as goal
 

@@ -1,5 +1,4 @@
-use Rattle.std.proofs.Common.{◌≡◌, rules, arith}
-use Rattle.std.proofs.lemmas.Int.{to_z-of_z}
+use Rattle.std.proofs.Common.{◌≡◌, rules}
 use Rattle.al_agg.specs.Part.{state_agg, fields_of, Stands}
 use Rattle.al_agg.proofs.FieldLaws.{IsStored, lists_at}
 use Rattle.al_agg.proofs.part.get_part.Goals.{in-CountAll+in_ok-get_number-in-CountAll, in-Count+in_ok-get_number-in-Count, in-Sum+in_ok-get_sum-in-Sum, in-Min+in_ok-get_value-in-Min, in-Max+in_ok-get_value-in-Max}
