@@ -1,5 +1,5 @@
 -- The partial states of aggregates, the lists of values that they stand for, and their fields in a row.
-use Rattle.std.specs.Prelude.{◌≡◌, ℕ, ◌/◌, ◌%◌, ◌^◌, ℤ, pos, ◌+ℤ◌, true, false, Option, Some, None, List, [], ◌∷◌, ◌++◌, length, take}
+use Rattle.std.specs.Prelude.{◌≡◌, ◌↔◌, ℕ, ◌/◌, ◌%◌, ◌^◌, ℤ, pos, ◌+ℤ◌, true, false, Option, Some, None, List, [], ◌∷◌, ◌++◌, length, take}
 use Rattle.std.specs.Int.{w64, w128, cast_signed, cast_unsigned}
 use Rattle.al_value.specs.declared.value.Value.{Value}
 use Rattle.al_value.specs.declared.value.Value.TheVariants as V
@@ -110,6 +110,10 @@ agg_of p = state_agg p.state
 -- the partial state stands for the list of values
 unfoldable pub Stands : Part → List Value → Type 0
 Stands p vs = StateStands p.state vs
+
+-- the partial state stands for the lists that have these state fields, and for no others
+abbrev pub StandsByFields : Agg → List Value → Part → Type 0
+StandsByFields a fields p = (vs : List Value) → Stands p vs ↔ (state_fields a vs ≡ fields)
 
 -- the state fields of a partial state
 unfoldable pub part_fields : Part → List Value

@@ -1,7 +1,7 @@
-ghost use Rattle.std.specs.Prelude.{All, ◌≡◌, ◌↔◌, ◌∷◌, [], ◌++◌, List, length, take, ℕ, IfOk, OnOk, OnErr, IsErrOf, IfSome, IsTrue, FitsSigned, pos};
-ghost use Rattle.al_value.specs.declared.value.Value.TheVariants as V;
+ghost use Rattle.std.specs.Prelude.{◌≡◌, ◌↔◌, ◌∷◌, [], ◌++◌, List, length, All, IfOk, OnOk, OnErr, IsErrOf, IfSome, IsTrue, FitsSigned, pos};
 ghost use Rattle.std.specs.Int.{w128};
 ghost use Rattle.al_value.specs.declared.value.Value.{Value as Cell};
+ghost use Rattle.al_value.specs.declared.value.Value.TheVariants as V;
 ghost use Rattle.al_value.specs.Value.{IsValue};
 ghost use Rattle.al_agg.specs.Agg.{agg};
 ghost use Rattle.al_agg.specs.Part as spec;
@@ -121,8 +121,7 @@ pub fn put_part(alloc: Global, p: &Part, out: &mut Row) -> Result<(), NoMemory>
     ensures ok { OnOk result (out.new ≡ out.old ++ spec.part_fields p.now) }
     ensures err { OnErr result (spec.GainsSome out.old out.new (spec.part_fields p.now)) }
 
-    // The fields are those of the lists that the state stands for, and of no other lists.
-    ensures lists { (vs : List Cell) → spec.Stands p.now vs ↔ (spec.state_fields (spec.agg_of p.now) vs ≡ spec.part_fields p.now) }
+    ensures lists { spec.StandsByFields (spec.agg_of p.now) (spec.part_fields p.now) p.now }
     ensures width { length (spec.part_fields p.now) ≡ spec.width (spec.agg_of p.now) }
     ensures state { spec.IsState (spec.agg_of p.now) (spec.part_fields p.now) }
 {
@@ -158,7 +157,7 @@ fn put_sum(sum: Option<i128>, out: &mut Row) -> Result<(), NoMemory>
 pub fn get_part(alloc: Global, a: Agg, fields: &[Value]) -> Result<Part, PartFault>
     ensures aggregate { IfOk result (λ p. spec.agg_of p ≡ a) }
     ensures fields { IfOk result (λ p. spec.part_fields p ≡ fields.now) }
-    ensures lists { IfOk result (λ p. (vs : List Cell) → spec.Stands p vs ↔ (spec.state_fields a vs ≡ fields.now)) }
+    ensures lists { IfOk result (spec.StandsByFields a fields.now) }
     ensures state { OnOk result (spec.IsState a fields.now) }
     ensures not_part { IsErrOf result PartFault.NotPart ↔ ¬ spec.IsState a fields.now }
 {

@@ -1,3 +1,14 @@
+pub mod Bools
 pub mod EvalLaws
 pub mod RowLaws
+pub mod Moves
 pub mod PlanLaws
+pub mod Orders
+pub mod Within
+pub mod Mono
+pub mod NoFault
+pub mod Fits
+pub mod Makes
+pub mod Lives
+pub mod Refine
+pub mod Idle

@@ -2,9 +2,11 @@
 #![tactic(auto)]
 
 mod expr;
+mod laws;
 mod plan;
 
 pub use expr::{Expr, Var};
+pub use laws::plan_laws;
 pub use plan::{AggCall, Generator, OrderKey, Plan};
 
 #[cfg(test)]

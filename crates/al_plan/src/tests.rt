@@ -1,4 +1,4 @@
-use crate::{Expr, Var};
+use crate::{Expr, Var, plan_laws};
 use al_func::Func;
 use al_value::{List, Name, Text, Value};
 use std::test::Fail;
@@ -12,5 +12,11 @@ fn copies_an_expression(rt: HostRuntime) -> Result<(), Fail> {
     args.push(Expr::Lit(Value::Text(Text::new(rt.alloc(), "x")?)))?;
     let e = Expr::Call(Func::Eq, args);
     assert!(rt; e.copy(rt.alloc())? == e);
+    Ok(())
+}
+
+#[test]
+fn calls_the_laws(_rt: HostRuntime) -> Result<(), Fail> {
+    plan_laws();
     Ok(())
 }
