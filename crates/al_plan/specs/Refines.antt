@@ -189,7 +189,7 @@ pub record Refines (q p : Plan) : Type 0 where
 abbrev pub IsNoMore : List Var → List Var → Type 0
 IsNoMore xs ys = (q : Bytes) → is_among ys q ≡ false → is_among xs q ≡ false
 
--- a part may be replaced by one that refines it and makes no variable that it does not make
+-- `q` may stand in the place of `p` within a greater plan: it refines `p`, and every variable that it makes `p` makes too
 pub record Replaces (q p : Plan) : Type 0 where
   pub refines : Refines q p
   pub makes_no_more : IsNoMore (makes q) (makes p)
