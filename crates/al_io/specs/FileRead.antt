@@ -8,3 +8,8 @@ abbrev pub TellsFile : Option Bytes → ℕ → FileRead → Type 0
 TellsFile file limit found.Absent = file ≡ None
 TellsFile file limit found.TooLarge = (bytes : Bytes) × (file ≡ Some bytes) × (limit < length bytes)
 TellsFile file limit (found.Bytes bytes) = (file ≡ Some bytes) × (length bytes ≤ limit)
+
+-- the bytes of a file are no more than the limit
+abbrev pub IsLimited : ℕ → FileRead → Type 0
+IsLimited limit (found.Bytes bytes) = length bytes ≤ limit
+IsLimited limit _ = Unit {0}

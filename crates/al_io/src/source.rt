@@ -1,6 +1,6 @@
 ghost use Rattle.std.specs.Prelude.{◌≡◌, ℕ, ◌<◌, ◌≤◌, ◌↔◌, Bool, true, false, Option, Some, Ok, length, IsTrue, IfOk, OnErr, OnOk};
 ghost use Rattle.al_io.specs.Outside.{Files, Bytes, Counted, is_failed, failed, Opens, Moves, Told, IsWholeOf};
-ghost use Rattle.al_io.specs.FileRead.{TellsFile};
+ghost use Rattle.al_io.specs.FileRead.{IsLimited, TellsFile};
 
 use al_value::{Failed, List, NoMemory};
 use std::alloc::Global;
@@ -117,6 +117,7 @@ pub fn read_file<S: Source>(
 ) -> Result<FileRead, ReadFault>
     ensures files { S.files source.new ≡ S.files source.old }
     ensures tells { IfOk result (λ found. Told (S.files source.old) (λ fs. TellsFile (fs name.now) limit found)) }
+    ensures limited { IfOk result (IsLimited limit) }
     ensures cause { Counted (is_failed result) (S.faults source.old) (S.faults source.new) }
 {
     if !source.open(name)? {

@@ -3,6 +3,7 @@ pub mod EvalLaws
 pub mod RowLaws
 pub mod Moves
 pub mod PlanLaws
+pub mod PlanRules
 pub mod Orders
 pub mod Within
 pub mod Mono
@@ -12,3 +13,5 @@ pub mod Makes
 pub mod Lives
 pub mod Refine
 pub mod Idle
+pub mod UsesLaws
+pub mod GrammarLaws

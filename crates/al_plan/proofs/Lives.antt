@@ -83,7 +83,7 @@ front : (zs xs ys : List Var) → Disjoint zs (xs ++ ys) → Disjoint zs xs
 front zs xs ys d q e = not_left xs ys q (d q e)
 
 -- what is live is not among what is made beside
-cross : (p : Plan) (inside : Bool) (given own : List Var) → FitsEach p inside given → NoTwice (makes p ++ own) → Disjoint given (makes p ++ own) → Disjoint (live p given) own
+pub cross : (p : Plan) (inside : Bool) (given own : List Var) → FitsEach p inside given → NoTwice (makes p ++ own) → Disjoint given (makes p ++ own) → Disjoint (live p given) own
 cross p inside given own fit once d q e =
     by_cases (is_among given q) (λ t. not_right (makes p) own q (d q t))
     (λ f. by_cases (is_among (makes p) q) (λ t. apart (makes p) own once q t) (λ t. absurd (no (sym e ∙ only_made p inside given fit q f t))))
@@ -124,7 +124,7 @@ layer_live {S} up ih y inside given z fit ng nm d =
     subst NoTwice (sym (live_is (map-Plan S Plan up y) given))
     (step_live up ih inside given z ng y (subst (λ (a : Bool → List Var → Type 0). a inside given) (each-roll (map-Plan S Plan up y)) fit) (subst NoTwice (makes-roll (map-Plan S Plan up y)) nm) (subst (Disjoint given) (makes-roll (map-Plan S Plan up y)) d))
 
-live_once_at : (p : Plan) → LiveOnce p
+pub live_once_at : (p : Plan) → LiveOnce p
 live_once_at = ind-Plan LiveOnce (λ x y e. subst (λ (z : L.Plan-F Plan). LiveOnce (roll-Plan z)) e (layer_live (λ s. s.0) (λ s. s.1) y))
 
 pub live_once : (p : Plan) → Fit p → NoTwice (live p [])

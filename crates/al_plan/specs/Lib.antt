@@ -2,5 +2,8 @@ pub mod Eval
 pub mod Calls
 pub mod Names
 pub mod Allows
+pub mod Uses
 pub mod Refines
 pub mod Laws
+pub mod Grammar
+pub mod Accept

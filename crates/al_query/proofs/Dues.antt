@@ -1,31 +1,32 @@
 -- The words and the files determine what is due, and what was written of a line is a part of it.
-use Rattle.std.proofs.Common.{◌≡◌, ◌≢◌, ◌==◌, ℕ, map, ◌<◌, ◌≤◌, ◌⊎◌, List, [], ◌∷◌, ◌++◌, length, get_or, Option, None, Some, true, false, Result, Ok, Err, refl, ap, sym, subst, ◌∙◌, inl, inr, arith}
-use Rattle.std.specs.Prelude.{OnOk, OnErr, nat_eq, codes}
-use lib.Utf8.{encode}
-use Rattle.std.specs.Cmp.Lexicographic.{pointwise, same_text}
-use Rattle.std.proofs.lemmas.Bool.{cases_Bool, eqb-true}
+use Rattle.std.proofs.Common.{◌≡◌, ◌≢◌, ℕ, ◌≤◌, ◌⊎◌, List, [], ◌∷◌, ◌++◌, length, Bool, Option, None, Some, true, false, Result, Ok, Err, refl, ap, sym, subst, ◌∙◌, inl, inr, arith}
+use Rattle.std.specs.Prelude.{OnOk, OnErr, ◌↔◌}
 use Rattle.std.proofs.lemmas.List.{take_all}
-use Rattle.al_value.specs.declared.value.Value.{Value}
 use Rattle.al_io.specs.Outside.{Bytes, Files, Told, GainsPrefix}
-use Rattle.al_csv.specs.Records.{records}
-use Rattle.al_query.specs.declared.status.RefusedKind.{RefusedKind}
-use Rattle.al_query.specs.declared.status.RefusedKind.TheVariants as refused
-use Rattle.al_query.specs.declared.status.Refused.{Refused}
-use Rattle.al_csv.specs.declared.refused.BadRecord.{BadRecord}
+use Rattle.al_words.specs.declared.command.Command.{Command}
+use Rattle.al_words.specs.declared.command.Command.TheVariants as C
+use Rattle.al_words.specs.Words.{IsCommand}
+use Rattle.al_plan.specs.declared.file.PlanFile.{PlanFile}
+use Rattle.al_plan.specs.declared.file.Refused.{Refused}
+use Rattle.al_plan.specs.Accept.{IsAccepted, accept_refusal}
+use Rattle.al_plan.specs.Allows.{Faults}
+use Rattle.al_plain.specs.declared.plan.Data.{Data}
+use Rattle.al_plain.specs.Gives.{sets_of}
+use Rattle.al_read.specs.Reads.{Reads, HasOneAnswer, IsReadRefusal}
 use Rattle.al_query.specs.declared.status.DataRefused.{DataRefused}
 use Rattle.al_query.specs.declared.status.Status.{Status}
 use Rattle.al_query.specs.declared.status.Status.TheVariants as St
-use Rattle.al_query.specs.declared.thin.ThinFile.{ThinFile}
-use Rattle.al_query.specs.Thin.{IsThinText}
-use Rattle.al_query.specs.ThinPlan.{decl_of}
-use Rattle.al_query.proofs.ThinWhole.{one_reading}
-use Rattle.al_query.specs.Served.{IsStep, IsPlan, IsRefusedAs, IsPlanRefused, IsData, IsBadData, absent, too_large, bad_record, IsDataRefused, IsGood, IsDue, IsDueOrFault, is_option, is_settled}
+use Rattle.al_query.specs.Served.{IsPlan, IsPlanRefused, absent, unread, unaccepted, loaded, IsServed, IsText, IsBadData, IsFaulty, IsSound, is_served, plan_of, query_of, IsAsked, IsDue, IsDueOrCut, IsGood, is_settled}
 
 -- ---- what a line's writing leaves
 
 pub told_map : {X : Type 0} (o : Option X) (P Q : X → Type 0) → Told o P → ((x : X) → P x → Q x) → Told o Q
 told_map None P Q h f = tt
 told_map (Some x) P Q h f = f x h
+
+pub told_both : {X : Type 0} (o : Option X) (P Q R : X → Type 0) → Told o P → Told o Q → ((x : X) → P x → Q x → R x) → Told o R
+told_both None P Q R h k f = tt
+told_both (Some x) P Q R h k f = f x h k
 
 whole_line : (bytes old : Bytes) (now : Option Bytes) → now ≡ Some (old ++ bytes) → GainsPrefix old bytes now
 whole_line bytes old now h =
@@ -36,132 +37,273 @@ pub some_line : {T E : Type 0} (r : Result T E) (was now : Option Bytes) (bytes 
 some_line (Ok x) was now bytes h k = told_map was (λ old. now ≡ Some (old ++ bytes)) (λ old. GainsPrefix old bytes now) h (λ old. whole_line bytes old now)
 some_line (Err e) was now bytes h k = k
 
--- ---- one name, one plan, one refusal
+-- ---- one command, one plan, one refusal
 
-pub two_words : {X : Type 0} (xs : List X) (a b : X) → 2 ≤ length xs → length xs < 3 → a ≡ get_or xs 0 a → b ≡ get_or xs 1 b → xs ≡ a ∷ b ∷ []
-two_words [] a b h k p q = absurd (omega arith)
-two_words (x ∷ []) a b h k p q = absurd (omega arith)
-two_words (x ∷ y ∷ []) a b h k p q = ap (λ (z : _). z ∷ y ∷ []) (sym p) ∙ ap (λ (z : _). a ∷ z ∷ []) (sym q)
-two_words (x ∷ y ∷ z ∷ xs) a b h k p q = absurd (omega arith)
-
-no_dash : (name : Bytes) → ((rest : Bytes) → name ≢ 45 ∷ rest) → is_option name ≡ false
-no_dash [] none = refl
-no_dash (b ∷ bs) none =
-    elim (cases_Bool (b == 45)) [
-      | inl y ↦ absurd (none bs (ap (λ (first : ℕ). first ∷ bs) (eqb-true b 45 y)))
-      | inr n ↦ n
-    ]
-
--- the words are `step` and a name
-pub step_words : {X : Type 0} (view : X → Bytes) (xs : List X) (a b : X) (command name : Bytes) → xs ≡ a ∷ b ∷ [] → command ≡ view a → name ≡ view b → true ≡ pointwise nat_eq command (codes "step")
-    → ((rest : Bytes) → name ≢ encode 45 ++ rest) → IsStep (map view xs) name
-unfolding encode
-step_words view xs a b command name two c n same none = (
-  ap (map view) two ∙ ap (λ (w : Bytes). w ∷ view b ∷ []) (sym c ∙ same_text command (codes "step") same) ∙ ap (λ (w : Bytes). codes "step" ∷ w ∷ []) (sym n),
-  no_dash name none,
-)
-
-one_name : (words : List Bytes) (a b : Bytes) → IsStep words a → IsStep words b → a ≡ b
-one_name words a b h k = let e = h.0 in let d = k.0 in cc
+-- that words have one command, and texts one reading, and that acceptance is exact
+pub record AreSingle : Type 0 where
+  pub command : (words : List Bytes) (c d : Command) → IsCommand words c → IsCommand words d → c ≡ d
+  pub reading : (bytes : Bytes) → HasOneAnswer bytes
+  pub accepting : (f : PlanFile) → IsAccepted f ↔ (accept_refusal f ≡ None)
 
 one_content : (file : Option Bytes) (a b : Bytes) → file ≡ Some a → file ≡ Some b → a ≡ b
 one_content file a b h k = cc
 
-one_plan : (file : Option Bytes) (f g : ThinFile) → IsPlan file f → IsPlan file g → f ≡ g
-one_plan file f g (a, there, is) (b, here, also) = one_reading b f g (subst (λ (bytes : Bytes). IsThinText bytes f) (one_content file a b there here) is) also
+one_plan : AreSingle → (file : Option Bytes) (f g : PlanFile) → IsPlan file f → IsPlan file g → f ≡ g
+one_plan single file f g (a, there, is, good) (b, here, also, fine) = (single.reading b).file f g (subst (λ (bytes : Bytes). Reads bytes f) (one_content file a b there here) is) also
 
-no_plan : (file : Option Bytes) (k : RefusedKind) (f : ThinFile) → IsRefusedAs k file → IsPlan file f → ⊥
-no_plan file refused.Absent f h (b, here, is) = cc
-no_plan file refused.Unbuilt f (a, there, none) (b, here, is) = none f (subst (λ (bytes : Bytes). IsThinText bytes f) (one_content file b a here there) is)
+none_some : {X : Type 0} (o : Option X) (x : X) → o ≡ None → o ≡ Some x → ⊥
+none_some o x h k = cc
 
-one_kind : (file : Option Bytes) (j k : RefusedKind) → IsRefusedAs j file → IsRefusedAs k file → j ≡ k
-one_kind file refused.Absent refused.Absent h k = refl
-one_kind file refused.Absent refused.Unbuilt h (b, here, none) = cc
-one_kind file refused.Unbuilt refused.Absent (b, here, none) k = cc
-one_kind file refused.Unbuilt refused.Unbuilt h k = refl
+no_plan : AreSingle → (file : Option Bytes) (r : Refused) (f : PlanFile) → IsPlanRefused file r → IsPlan file f → ⊥
+no_plan single file r f (absent none is) (b, here, reads, good) = none_some file b none here
+no_plan single file r f (unread a there bad) (b, here, reads, good) = (single.reading a).apart f r (subst (λ (bytes : Bytes). Reads bytes f) (one_content file b a here there) reads) bad
+no_plan single file r f (unaccepted a there g is bad) (b, here, reads, good) =
+    let same : g ≡ f = (single.reading b).file g f (subst (λ (bytes : Bytes). Reads bytes g) (one_content file a b there here) is) reads in
+    none_some (accept_refusal f) r ((single.accepting f).0 good) (subst (λ (x : PlanFile). accept_refusal x ≡ Some r) same bad)
 
-one_refusal : (file : Option Bytes) (r s : Refused) → IsPlanRefused file r → IsPlanRefused file s → r ≡ s
-one_refusal file r s (p, h) (q, k) i = record { kind = one_kind file r.kind s.kind h k i; place = (p ∙ sym q) i }
+some_same : {X : Type 0} (o : Option X) (x y : X) → o ≡ Some x → o ≡ Some y → x ≡ y
+some_same o x y h k = cc
 
-one_bad : (f : ThinFile) (file : Option Bytes) (a b : BadRecord) → IsBadData f file a → IsBadData f file b → a ≡ b
-one_bad f file a b (absent none is) (absent none2 also) = is ∙ sym also
-one_bad f file a b (absent none is) (too_large bytes there many also) = cc
-one_bad f file a b (absent none is) (bad_record bytes there few also) = cc
-one_bad f file a b (too_large bytes there many is) (absent none also) = cc
-one_bad f file a b (too_large bytes there many is) (too_large bytes2 there2 many2 also) = is ∙ sym also
-one_bad f file a b (too_large bytes there many is) (bad_record bytes2 there2 few also) = let e = ap length (one_content file bytes bytes2 there there2) in absurd (omega (arith, e, many, few))
-one_bad f file a b (bad_record bytes there few is) (absent none also) = cc
-one_bad f file a b (bad_record bytes there few is) (too_large bytes2 there2 many also) = let e = ap length (one_content file bytes bytes2 there there2) in absurd (omega (arith, e, many, few))
-one_bad f file a b (bad_record bytes there few is) (bad_record bytes2 there2 few2 also) = let e = ap (λ (bs : Bytes). records (decl_of f).columns bs) (one_content file bytes bytes2 there there2) in cc
+one_refusal : AreSingle → (file : Option Bytes) (r s : Refused) → IsPlanRefused file r → IsPlanRefused file s → r ≡ s
+one_refusal single file r s (absent none is) (absent none2 also) = is ∙ sym also
+one_refusal single file r s (absent none is) (unread b here bad) = absurd (none_some file b none here)
+one_refusal single file r s (absent none is) (unaccepted b here g reads bad) = absurd (none_some file b none here)
+one_refusal single file r s (unread a there bad) (absent none is) = absurd (none_some file a none there)
+one_refusal single file r s (unread a there bad) (unread b here worse) = (single.reading a).refused r s bad (subst (λ (bytes : Bytes). IsReadRefusal bytes s) (one_content file b a here there) worse)
+one_refusal single file r s (unread a there bad) (unaccepted b here g reads worse) =
+    absurd ((single.reading a).apart g r (subst (λ (bytes : Bytes). Reads bytes g) (one_content file b a here there) reads) bad)
+one_refusal single file r s (unaccepted a there f reads bad) (absent none is) = absurd (none_some file a none there)
+one_refusal single file r s (unaccepted a there f reads bad) (unread b here worse) =
+    absurd ((single.reading b).apart f s (subst (λ (bytes : Bytes). Reads bytes f) (one_content file a b there here) reads) worse)
+one_refusal single file r s (unaccepted a there f reads bad) (unaccepted b here g also worse) =
+    let same : f ≡ g = (single.reading b).file f g (subst (λ (bytes : Bytes). Reads bytes f) (one_content file a b there here) reads) also in
+    some_same (accept_refusal g) r s (subst (λ (x : PlanFile). accept_refusal x ≡ Some r) same bad) worse
 
-no_data : (f : ThinFile) (file : Option Bytes) (bad : BadRecord) (rows : List (List Value)) → IsBadData f file bad → IsData f file rows → ⊥
-no_data f file bad rows (absent none is) (b, here, few, good) = cc
-no_data f file bad rows (too_large bytes there many is) (b, here, few, good) = let e = ap length (one_content file bytes b there here) in omega (arith, e, many, few)
-no_data f file bad rows (bad_record bytes there small is) (b, here, few, good) = let e = ap (λ (bs : Bytes). records (decl_of f).columns bs) (one_content file bytes b there here) in cc
+-- ---- what a command asks for
 
-one_data_refusal : (f : ThinFile) (file : Option Bytes) (d e : DataRefused) → IsDataRefused f file d → IsDataRefused f file e → d ≡ e
-one_data_refusal f file d e h k i = record { file = (h.named ∙ sym k.named) i; bad = one_bad f file d.bad e.bad h.is k.is i }
+text_served : (c : Command) (fs : Files) (text : Bytes) → IsText c fs text → is_served c ≡ true
+text_served (C.Check plan) fs text h = refl
+text_served (C.Explain plan partitions) fs text h = absurd h
+text_served (C.Plain plan) fs text h = refl
+text_served (C.Step plan settings schedule) fs text h = refl
+text_served (C.Run plan settings workers) fs text h = absurd h
+text_served (C.Gen seed rows) fs text h = refl
+text_served (C.Drill seed rows plan settings) fs text h = absurd h
+text_served (C.Frames plan dataset frame_size) fs text h = absurd h
+
+plan_served : (c : Command) (plan : Bytes) → plan_of c ≡ Some plan → is_served c ≡ true
+plan_served (C.Check name) plan h = refl
+plan_served (C.Explain name partitions) plan h = cc
+plan_served (C.Plain name) plan h = refl
+plan_served (C.Step name settings schedule) plan h = refl
+plan_served (C.Run name settings workers) plan h = cc
+plan_served (C.Gen seed rows) plan h = refl
+plan_served (C.Drill seed rows name settings) plan h = cc
+plan_served (C.Frames name dataset frame_size) plan h = cc
+
+query_plan : (c : Command) (plan : Bytes) → query_of c ≡ Some plan → plan_of c ≡ Some plan
+query_plan (C.Check name) plan h = cc
+query_plan (C.Explain name partitions) plan h = h
+query_plan (C.Plain name) plan h = h
+query_plan (C.Step name settings schedule) plan h = h
+query_plan (C.Run name settings workers) plan h = h
+query_plan (C.Gen seed rows) plan h = h
+query_plan (C.Drill seed rows name settings) plan h = h
+query_plan (C.Frames name dataset frame_size) plan h = h
+
+good_served : (c : Command) (fs : Files) → IsGood c fs → is_served c ≡ true
+good_served (C.Check plan) fs h = refl
+good_served (C.Explain plan partitions) fs h = absurd h
+good_served (C.Plain plan) fs h = refl
+good_served (C.Step plan settings schedule) fs h = refl
+good_served (C.Run plan settings workers) fs h = absurd h
+good_served (C.Gen seed rows) fs h = refl
+good_served (C.Drill seed rows plan settings) fs h = absurd h
+good_served (C.Frames plan dataset frame_size) fs h = absurd h
+
+abbrev HasPlan : Files → Bytes → Type 0
+HasPlan fs name = (f : PlanFile) × IsPlan (fs name) f
+
+served_plan : (fs : Files) (name text : Bytes) → IsServed fs name text → HasPlan fs name
+served_plan fs name text h = (h.file, h.plan)
+
+at_name : (P : Bytes → Type 0) (own plan : Bytes) → Some own ≡ Some plan → P own → P plan
+at_name P own plan e h = subst P (some_same (Some own) own plan refl e) h
+
+text_plan : (c : Command) (fs : Files) (text plan : Bytes) → IsText c fs text → plan_of c ≡ Some plan → HasPlan fs plan
+text_plan (C.Check name) fs text plan (f, is, e) k = at_name (HasPlan fs) name plan k (f, is)
+text_plan (C.Explain name partitions) fs text plan h k = absurd h
+text_plan (C.Plain name) fs text plan h k = at_name (HasPlan fs) name plan k (served_plan fs name text h)
+text_plan (C.Step name settings schedule) fs text plan h k = at_name (HasPlan fs) name plan k (served_plan fs name text h)
+text_plan (C.Run name settings workers) fs text plan h k = absurd h
+text_plan (C.Gen seed rows) fs text plan h k = cc
+text_plan (C.Drill seed rows name settings) fs text plan h k = absurd h
+text_plan (C.Frames name dataset frame_size) fs text plan h k = absurd h
+
+text_query : (c : Command) (fs : Files) (text plan : Bytes) → IsText c fs text → query_of c ≡ Some plan → IsServed fs plan text
+text_query (C.Check name) fs text plan h k = cc
+text_query (C.Explain name partitions) fs text plan h k = absurd h
+text_query (C.Plain name) fs text plan h k = at_name (λ n. IsServed fs n text) name plan k h
+text_query (C.Step name settings schedule) fs text plan h k = at_name (λ n. IsServed fs n text) name plan k h
+text_query (C.Run name settings workers) fs text plan h k = absurd h
+text_query (C.Gen seed rows) fs text plan h k = cc
+text_query (C.Drill seed rows name settings) fs text plan h k = absurd h
+text_query (C.Frames name dataset frame_size) fs text plan h k = absurd h
+
+sound_plan : (fs : Files) (name : Bytes) → IsSound fs name → HasPlan fs name
+sound_plan fs name (f, sets, is, good, none) = (f, is)
+
+good_plan : (c : Command) (fs : Files) (plan : Bytes) → IsGood c fs → plan_of c ≡ Some plan → HasPlan fs plan
+good_plan (C.Check name) fs plan h k = at_name (HasPlan fs) name plan k h
+good_plan (C.Explain name partitions) fs plan h k = absurd h
+good_plan (C.Plain name) fs plan h k = at_name (HasPlan fs) name plan k (sound_plan fs name h)
+good_plan (C.Step name settings schedule) fs plan h k = at_name (HasPlan fs) name plan k (sound_plan fs name h)
+good_plan (C.Run name settings workers) fs plan h k = absurd h
+good_plan (C.Gen seed rows) fs plan h k = cc
+good_plan (C.Drill seed rows name settings) fs plan h k = absurd h
+good_plan (C.Frames name dataset frame_size) fs plan h k = absurd h
+
+good_query : (c : Command) (fs : Files) (plan : Bytes) → IsGood c fs → query_of c ≡ Some plan → IsSound fs plan
+good_query (C.Check name) fs plan h k = cc
+good_query (C.Explain name partitions) fs plan h k = absurd h
+good_query (C.Plain name) fs plan h k = at_name (IsSound fs) name plan k h
+good_query (C.Step name settings schedule) fs plan h k = at_name (IsSound fs) name plan k h
+good_query (C.Run name settings workers) fs plan h k = absurd h
+good_query (C.Gen seed rows) fs plan h k = cc
+good_query (C.Drill seed rows name settings) fs plan h k = absurd h
+good_query (C.Frames name dataset frame_size) fs plan h k = absurd h
 
 -- ---- a status that is due
 
--- the same plan file and the same plan, where both are due
-plan_here : (fs : Files) (a b : Bytes) (f : ThinFile) → a ≡ b → IsPlan (fs a) f → IsPlan (fs b) f
-plan_here fs a b f e h = subst (λ (name : Bytes). IsPlan (fs name) f) e h
+not_both : (b : Bool) → b ≡ true → b ≡ false → ⊥
+not_both b h k = cc
 
-refused_here : (fs : Files) (a b : Bytes) (r : Refused) → a ≡ b → IsPlanRefused (fs a) r → IsPlanRefused (fs b) r
-refused_here fs a b r e h = subst (λ (name : Bytes). IsPlanRefused (fs name) r) e h
+refused_and_plan : AreSingle → (fs : Files) (plan : Bytes) (r : Refused) → IsPlanRefused (fs plan) r → HasPlan fs plan → ⊥
+refused_and_plan single fs plan r bad (f, is) = no_plan single (fs plan) r f bad is
 
-not_refused : (words : List Bytes) (fs : Files) (a b : Bytes) (r : Refused) (f : ThinFile) → IsStep words a → IsStep words b → IsPlanRefused (fs a) r → IsPlan (fs b) f → ⊥
-not_refused words fs a b r f s t h k = no_plan (fs b) r.kind f (refused_here fs a b r (one_name words a b s t) h).1 k
+ok_err : {X E : Type 0} (r : Result X E) (x : X) (e : E) → r ≡ Ok x → r ≡ Err e → ⊥
+ok_err r x e h k = cc
 
-data_here : (words : List Bytes) (fs : Files) (a b : Bytes) (f g : ThinFile) → IsStep words a → IsStep words b → IsPlan (fs a) f → IsPlan (fs b) g → f ≡ g
-data_here words fs a b f g s t h k = one_plan (fs b) f g (plan_here fs a b f (one_name words a b s t) h) k
+same_err : {X E : Type 0} (r : Result X E) (d e : E) → r ≡ Err d → r ≡ Err e → d ≡ e
+same_err r d e h k = cc
 
-not_bad : (words : List Bytes) (fs : Files) (a b : Bytes) (f g : ThinFile) (d : DataRefused) (rows : List (List Value)) → IsStep words a → IsStep words b → IsPlan (fs a) f → IsPlan (fs b) g → IsDataRefused f (fs f.file) d → IsData g (fs g.file) rows → ⊥
-not_bad words fs a b f g d rows s t h k bad good =
-    no_data g (fs g.file) d.bad rows (subst (λ (x : ThinFile). IsBadData x (fs x.file) d.bad) (data_here words fs a b f g s t h k) bad.is) good
+same_ok : {X E : Type 0} (r : Result X E) (d e : X) → r ≡ Ok d → r ≡ Ok e → d ≡ e
+same_ok r d e h k = cc
 
-due_is : (words : List Bytes) (fs : Files) (status due : Status) → IsDue words fs status → is_settled due ≡ true → IsDue words fs due → IsDueOrFault due status
-due_is words fs St.SourceFault due h s k = inr refl
-due_is words fs St.SinkFault due h s k = inr refl
-due_is words fs St.NoMemory due h s k = inr refl
-due_is words fs status St.SourceFault h s k = cc
-due_is words fs status St.SinkFault h s k = cc
-due_is words fs status St.NoMemory h s k = cc
-due_is words fs St.Usage St.Usage h s k = inl refl
-due_is words fs St.Usage (St.PlanRefused r) h s (a, is, bad) = absurd (h a is)
-due_is words fs St.Usage (St.DataRefused d) h s (a, f, is, plan, bad) = absurd (h a is)
-due_is words fs St.Usage St.Done h s (a, is, good) = absurd (h a is)
-due_is words fs (St.PlanRefused r) St.Usage (a, is, bad) s k = absurd (k a is)
-due_is words fs (St.PlanRefused r) (St.PlanRefused q) (a, is, bad) s (b, also, worse) = inl (ap St.PlanRefused (one_refusal (fs b) r q (refused_here fs a b r (one_name words a b is also) bad) worse))
-due_is words fs (St.PlanRefused r) (St.DataRefused d) (a, is, bad) s (b, f, also, plan, worse) = absurd (not_refused words fs a b r f is also bad plan)
-due_is words fs (St.PlanRefused r) St.Done (a, is, bad) s (b, also, good) = absurd (not_refused words fs a b r good.0 is also bad good.2)
-due_is words fs (St.DataRefused d) St.Usage (a, f, is, plan, bad) s k = absurd (k a is)
-due_is words fs (St.DataRefused d) (St.PlanRefused r) (a, f, is, plan, bad) s (b, also, worse) = absurd (not_refused words fs b a r f also is worse plan)
-due_is words fs (St.DataRefused d) (St.DataRefused e) (a, f, is, plan, bad) s (b, g, also, here, worse) =
-    inl (ap St.DataRefused (one_data_refusal g (fs g.file) d e (subst (λ (x : ThinFile). IsDataRefused x (fs x.file) d) (data_here words fs a b f g is also plan here) bad) worse))
-due_is words fs (St.DataRefused d) St.Done (a, f, is, plan, bad) s (b, also, (g, rows, here, good)) = absurd (not_bad words fs a b f g d rows is also plan here bad good)
-due_is words fs St.Done St.Usage (a, is, good) s k = absurd (k a is)
-due_is words fs St.Done (St.PlanRefused r) (a, is, good) s (b, also, bad) = absurd (not_refused words fs b a r good.0 also is bad good.2)
-due_is words fs St.Done (St.DataRefused d) (a, is, (f, rows, plan, good)) s (b, g, also, here, bad) = absurd (not_bad words fs b a g f d rows also is here plan bad good)
-due_is words fs St.Done St.Done h s k = inl refl
+-- data can't be both good and bad
+bad_and_good : AreSingle → (fs : Files) (plan : Bytes) (d : DataRefused) (g : PlanFile) (sets : List Data) → IsBadData fs plan d → IsPlan (fs plan) g → loaded fs 0 g.datasets ≡ Ok sets → ⊥
+bad_and_good single fs plan d g sets (f, is, bad) also good = ok_err (loaded fs 0 g.datasets) sets d good (subst (λ (x : PlanFile). loaded fs 0 x.datasets ≡ Err d) (one_plan single (fs plan) f g is also) bad)
 
-done_or_memory : (words : List Bytes) (fs : Files) (name : Bytes) (status : Status) (Source Sink : Type 0) → IsDue words fs status → (status ≡ St.SourceFault → Source) → (status ≡ St.SinkFault → Sink) → IsStep words name → IsGood fs name → ¬ Source → ¬ Sink
-    → (status ≡ St.Done) ⊎ (status ≡ St.NoMemory)
-done_or_memory words fs name St.Done Source Sink is source sink step good quiet calm = inl refl
-done_or_memory words fs name St.NoMemory Source Sink is source sink step good quiet calm = inr refl
-done_or_memory words fs name St.SourceFault Source Sink is source sink step good quiet calm = absurd (quiet (source refl))
-done_or_memory words fs name St.SinkFault Source Sink is source sink step good quiet calm = absurd (calm (sink refl))
-done_or_memory words fs name St.Usage Source Sink is source sink step good quiet calm = absurd (is name step)
-done_or_memory words fs name (St.PlanRefused r) Source Sink (a, also, bad) source sink step good quiet calm = absurd (not_refused words fs a name r good.0 also step bad good.2)
-done_or_memory words fs name (St.DataRefused d) Source Sink (a, f, also, plan, bad) source sink step (g, rows, here, good) quiet calm = absurd (not_bad words fs a name f g d rows also step plan here bad good)
+one_bad_data : AreSingle → (fs : Files) (plan : Bytes) (d e : DataRefused) → IsBadData fs plan d → IsBadData fs plan e → d ≡ e
+one_bad_data single fs plan d e (f, is, bad) (g, also, worse) = same_err (loaded fs 0 g.datasets) d e (subst (λ (x : PlanFile). loaded fs 0 x.datasets ≡ Err d) (one_plan single (fs plan) f g is also) bad) worse
 
-pub told_due : (files : Option Files) (words : List Bytes) (status : Status) → Told files (λ fs. IsDue words fs status) → Told files (λ fs. (due : Status) → is_settled due ≡ true → IsDue words fs due → IsDueOrFault due status)
-told_due files words status h = told_map files (λ fs. IsDue words fs status) (λ fs. (due : Status) → is_settled due ≡ true → IsDue words fs due → IsDueOrFault due status) h (λ fs is due s k. due_is words fs status due is s k)
+bad_and_sound : AreSingle → (fs : Files) (plan : Bytes) (d : DataRefused) → IsBadData fs plan d → IsSound fs plan → ⊥
+bad_and_sound single fs plan d bad (g, sets, also, fine, none) = bad_and_good single fs plan d g sets bad also fine
+
+faulty_and_sound : AreSingle → (fs : Files) (plan own : Bytes) → IsFaulty fs plan own → IsSound fs plan → ⊥
+faulty_and_sound single fs plan own (f, sets, is, good, fault) (g, others, also, fine, none) =
+    let same : f ≡ g = one_plan single (fs plan) f g is also in
+    let read : loaded fs 0 g.datasets ≡ Ok sets = subst (λ (x : PlanFile). loaded fs 0 x.datasets ≡ Ok sets) same good in
+    let rows : sets ≡ others = same_ok (loaded fs 0 g.datasets) sets others read fine in
+    none own (subst (λ (xs : List Data). Faults g.root (sets_of xs) [] [] own) rows (subst (λ (x : PlanFile). Faults x.root (sets_of sets) [] [] own) same fault))
+
+-- what a command asks for, where it asks for a refusal
+settled_is : AreSingle → (c : Command) (fs : Files) (status due : Status) → IsAsked c fs status → is_settled due ≡ true → IsAsked c fs due → IsDueOrCut due status
+settled_is single c fs St.SourceFault due h s k = inr refl
+settled_is single c fs St.SinkFault due h s k = inr refl
+settled_is single c fs St.NoMemory due h s k = inr refl
+settled_is single c fs status St.SourceFault h s k = cc
+settled_is single c fs status St.SinkFault h s k = cc
+settled_is single c fs status St.NoMemory h s k = cc
+settled_is single c fs status St.Done h s k = cc
+settled_is single c fs status (St.CheckFailed own) h s k = cc
+settled_is single c fs St.Usage St.Usage h s k = inl refl
+settled_is single c fs St.Usage (St.PlanRefused r) h s (plan, of, bad) = absurd (not_both (is_served c) (plan_served c plan of) h)
+settled_is single c fs St.Usage (St.DataRefused d) h s (plan, of, bad) = absurd (not_both (is_served c) (plan_served c plan (query_plan c plan of)) h)
+settled_is single c fs St.Done St.Usage (text, is) s k = absurd (not_both (is_served c) (text_served c fs text is) k)
+settled_is single c fs St.Done (St.PlanRefused r) (text, is) s (plan, of, bad) = absurd (refused_and_plan single fs plan r bad (text_plan c fs text plan is of))
+settled_is single c fs St.Done (St.DataRefused d) (text, is) s (plan, of, bad) =
+    let served : IsServed fs plan text = text_query c fs text plan is of in absurd (bad_and_good single fs plan d served.file served.sets bad served.plan served.data_read)
+settled_is single c fs (St.PlanRefused r) St.Usage (plan, of, bad) s k = absurd (not_both (is_served c) (plan_served c plan of) k)
+settled_is single c fs (St.PlanRefused r) (St.PlanRefused q) (plan, of, bad) s (name, is, worse) =
+    inl (ap St.PlanRefused (one_refusal single (fs name) r q (subst (λ (n : Bytes). IsPlanRefused (fs n) r) (some_same (plan_of c) plan name of is) bad) worse))
+settled_is single c fs (St.PlanRefused r) (St.DataRefused d) (plan, of, bad) s (name, is, (f, here, worse)) =
+    absurd (refused_and_plan single fs name r (subst (λ (n : Bytes). IsPlanRefused (fs n) r) (some_same (plan_of c) plan name of (query_plan c name is)) bad) (f, here))
+settled_is single c fs (St.DataRefused d) St.Usage (plan, of, bad) s k = absurd (not_both (is_served c) (plan_served c plan (query_plan c plan of)) k)
+settled_is single c fs (St.DataRefused d) (St.PlanRefused r) (name, is, (f, here, worse)) s (plan, of, bad) =
+    absurd (refused_and_plan single fs name r (subst (λ (n : Bytes). IsPlanRefused (fs n) r) (some_same (plan_of c) plan name of (query_plan c name is)) bad) (f, here))
+settled_is single c fs (St.DataRefused d) (St.DataRefused e) (plan, of, bad) s (name, is, worse) =
+    inl (ap St.DataRefused (one_bad_data single fs name d e (subst (λ (n : Bytes). IsBadData fs n d) (some_same (query_of c) plan name of is) bad) worse))
+settled_is single c fs (St.CheckFailed own) St.Usage (plan, of, bad) s k = absurd (not_both (is_served c) (plan_served c plan (query_plan c plan of)) k)
+settled_is single c fs (St.CheckFailed own) (St.PlanRefused r) (name, is, (f, sets, here, good, fault)) s (plan, of, bad) =
+    absurd (refused_and_plan single fs name r (subst (λ (n : Bytes). IsPlanRefused (fs n) r) (some_same (plan_of c) plan name of (query_plan c name is)) bad) (f, here))
+settled_is single c fs (St.CheckFailed own) (St.DataRefused d) (name, is, (f, sets, here, good, fault)) s (plan, of, bad) =
+    absurd (bad_and_good single fs name d f sets (subst (λ (n : Bytes). IsBadData fs n d) (some_same (query_of c) plan name of is) bad) here good)
+
+-- the words' command is one, so what it asks for may be compared
+compared : AreSingle → (words : List Bytes) (fs : Files) (status due : Status) (c d : Command) → IsCommand words c → IsCommand words d → IsAsked c fs status → is_settled due ≡ true → IsAsked d fs due → IsDueOrCut due status
+compared single words fs status due c d is also h s k = settled_is single d fs status due (subst (λ (x : Command). IsAsked x fs status) (single.command words c d is also) h) s k
+
+due_is : AreSingle → (words : List Bytes) (fs : Files) (status due : Status) → IsDue words fs status → is_settled due ≡ true → IsDue words fs due → IsDueOrCut due status
+due_is single words fs St.SourceFault due h s k = inr refl
+due_is single words fs St.SinkFault due h s k = inr refl
+due_is single words fs St.NoMemory due h s k = inr refl
+due_is single words fs status St.SourceFault h s k = cc
+due_is single words fs status St.SinkFault h s k = cc
+due_is single words fs status St.NoMemory h s k = cc
+due_is single words fs status St.Done h s k = cc
+due_is single words fs status (St.CheckFailed own) h s k = cc
+due_is single words fs St.Usage St.Usage h s k = inl refl
+due_is single words fs St.Usage (St.PlanRefused r) h s (c, is, k) = settled_is single c fs St.Usage (St.PlanRefused r) (h c is) s k
+due_is single words fs St.Usage (St.DataRefused d) h s (c, is, k) = settled_is single c fs St.Usage (St.DataRefused d) (h c is) s k
+due_is single words fs St.Done St.Usage (c, is, h) s k = settled_is single c fs St.Done St.Usage h s (k c is)
+due_is single words fs St.Done (St.PlanRefused r) (c, is, h) s (d, also, k) = compared single words fs St.Done (St.PlanRefused r) c d is also h s k
+due_is single words fs St.Done (St.DataRefused e) (c, is, h) s (d, also, k) = compared single words fs St.Done (St.DataRefused e) c d is also h s k
+due_is single words fs (St.PlanRefused q) St.Usage (c, is, h) s k = settled_is single c fs (St.PlanRefused q) St.Usage h s (k c is)
+due_is single words fs (St.PlanRefused q) (St.PlanRefused r) (c, is, h) s (d, also, k) = compared single words fs (St.PlanRefused q) (St.PlanRefused r) c d is also h s k
+due_is single words fs (St.PlanRefused q) (St.DataRefused e) (c, is, h) s (d, also, k) = compared single words fs (St.PlanRefused q) (St.DataRefused e) c d is also h s k
+due_is single words fs (St.DataRefused q) St.Usage (c, is, h) s k = settled_is single c fs (St.DataRefused q) St.Usage h s (k c is)
+due_is single words fs (St.DataRefused q) (St.PlanRefused r) (c, is, h) s (d, also, k) = compared single words fs (St.DataRefused q) (St.PlanRefused r) c d is also h s k
+due_is single words fs (St.DataRefused q) (St.DataRefused e) (c, is, h) s (d, also, k) = compared single words fs (St.DataRefused q) (St.DataRefused e) c d is also h s k
+due_is single words fs (St.CheckFailed own) St.Usage (c, is, h) s k = settled_is single c fs (St.CheckFailed own) St.Usage h s (k c is)
+due_is single words fs (St.CheckFailed own) (St.PlanRefused r) (c, is, h) s (d, also, k) = compared single words fs (St.CheckFailed own) (St.PlanRefused r) c d is also h s k
+due_is single words fs (St.CheckFailed own) (St.DataRefused e) (c, is, h) s (d, also, k) = compared single words fs (St.CheckFailed own) (St.DataRefused e) c d is also h s k
+
+abbrev Ends : Status → Type 0
+Ends status = (status ≡ St.Done) ⊎ (status ≡ St.NoMemory)
+
+-- a command with good files ends well
+good_ends : AreSingle → (c : Command) (fs : Files) (status : Status) (Source Sink : Type 0) → IsAsked c fs status → (status ≡ St.SourceFault → Source) → (status ≡ St.SinkFault → Sink) → IsGood c fs → ¬ Source → ¬ Sink → Ends status
+good_ends single c fs St.Done Source Sink h source sink good quiet calm = inl refl
+good_ends single c fs St.NoMemory Source Sink h source sink good quiet calm = inr refl
+good_ends single c fs St.SourceFault Source Sink h source sink good quiet calm = absurd (quiet (source refl))
+good_ends single c fs St.SinkFault Source Sink h source sink good quiet calm = absurd (calm (sink refl))
+good_ends single c fs St.Usage Source Sink h source sink good quiet calm = absurd (not_both (is_served c) (good_served c fs good) h)
+good_ends single c fs (St.PlanRefused r) Source Sink (plan, of, bad) source sink good quiet calm = absurd (refused_and_plan single fs plan r bad (good_plan c fs plan good of))
+good_ends single c fs (St.DataRefused d) Source Sink (plan, of, bad) source sink good quiet calm = absurd (bad_and_sound single fs plan d bad (good_query c fs plan good of))
+good_ends single c fs (St.CheckFailed own) Source Sink (plan, of, bad) source sink good quiet calm = absurd (faulty_and_sound single fs plan own bad (good_query c fs plan good of))
+
+ends_by : AreSingle → (words : List Bytes) (fs : Files) (status : Status) (c d : Command) (Source Sink : Type 0) → IsCommand words c → IsCommand words d → IsAsked c fs status → (status ≡ St.SourceFault → Source) → (status ≡ St.SinkFault → Sink) → IsGood d fs → ¬ Source → ¬ Sink → Ends status
+ends_by single words fs status c d Source Sink is also h source sink good quiet calm =
+    good_ends single d fs status Source Sink (subst (λ (x : Command). IsAsked x fs status) (single.command words c d is also) h) source sink good quiet calm
+
+done_or_memory : AreSingle → (words : List Bytes) (fs : Files) (status : Status) (d : Command) (Source Sink : Type 0) → IsDue words fs status → (status ≡ St.SourceFault → Source) → (status ≡ St.SinkFault → Sink) → IsCommand words d → IsGood d fs → ¬ Source → ¬ Sink → Ends status
+done_or_memory single words fs St.Done d Source Sink h source sink is good quiet calm = inl refl
+done_or_memory single words fs St.NoMemory d Source Sink h source sink is good quiet calm = inr refl
+done_or_memory single words fs St.SourceFault d Source Sink h source sink is good quiet calm = absurd (quiet (source refl))
+done_or_memory single words fs St.SinkFault d Source Sink h source sink is good quiet calm = absurd (calm (sink refl))
+done_or_memory single words fs St.Usage d Source Sink h source sink is good quiet calm = good_ends single d fs St.Usage Source Sink (h d is) source sink good quiet calm
+done_or_memory single words fs (St.PlanRefused r) d Source Sink (c, also, h) source sink is good quiet calm = ends_by single words fs (St.PlanRefused r) c d Source Sink also is h source sink good quiet calm
+done_or_memory single words fs (St.DataRefused r) d Source Sink (c, also, h) source sink is good quiet calm = ends_by single words fs (St.DataRefused r) c d Source Sink also is h source sink good quiet calm
+done_or_memory single words fs (St.CheckFailed own) d Source Sink (c, also, h) source sink is good quiet calm = ends_by single words fs (St.CheckFailed own) c d Source Sink also is h source sink good quiet calm
+
+pub told_due : AreSingle → (files : Option Files) (words : List Bytes) (status : Status) → Told files (λ fs. IsDue words fs status) → Told files (λ fs. (due : Status) → is_settled due ≡ true → IsDue words fs due → IsDueOrCut due status)
+told_due single files words status h =
+    told_map files (λ fs. IsDue words fs status) (λ fs. (due : Status) → is_settled due ≡ true → IsDue words fs due → IsDueOrCut due status) h (λ fs is due s k. due_is single words fs status due is s k)
 
 -- good words and files bring an answer or want of memory, where nothing outside failed
-pub told_complete : (files : Option Files) (words : List Bytes) (status : Status) (Source Sink : Type 0) → Told files (λ fs. IsDue words fs status) → (status ≡ St.SourceFault → Source) → (status ≡ St.SinkFault → Sink)
-    → Told files (λ fs. (name : Bytes) → IsStep words name → IsGood fs name → ¬ Source → ¬ Sink → (status ≡ St.Done) ⊎ (status ≡ St.NoMemory))
-told_complete files words status Source Sink h source sink =
-    told_map files (λ fs. IsDue words fs status) (λ fs. (name : Bytes) → IsStep words name → IsGood fs name → ¬ Source → ¬ Sink → (status ≡ St.Done) ⊎ (status ≡ St.NoMemory)) h
-    (λ fs is name step good no_source no_sink. done_or_memory words fs name status Source Sink is source sink step good no_source no_sink)
+pub told_complete : AreSingle → (files : Option Files) (words : List Bytes) (status : Status) (Source Sink : Type 0) → Told files (λ fs. IsDue words fs status) → (status ≡ St.SourceFault → Source) → (status ≡ St.SinkFault → Sink)
+    → Told files (λ fs. (c : Command) → IsCommand words c → IsGood c fs → ¬ Source → ¬ Sink → (status ≡ St.Done) ⊎ (status ≡ St.NoMemory))
+told_complete single files words status Source Sink h source sink =
+    told_map files (λ fs. IsDue words fs status) (λ fs. (c : Command) → IsCommand words c → IsGood c fs → ¬ Source → ¬ Sink → (status ≡ St.Done) ⊎ (status ≡ St.NoMemory)) h
+    (λ fs is c asked good no_source no_sink. done_or_memory single words fs status c Source Sink is source sink asked good no_source no_sink)

@@ -1,10 +1,3 @@
-pub mod ThinPieces
-pub mod ThinAccept
-pub mod ThinReads
-pub mod ThinNames
-pub mod ThinLine
-pub mod ThinWhole
-pub mod Values
-pub mod ThinAnswers
-pub mod Refusals
 pub mod Dues
+pub mod Loads
+pub mod Steps

@@ -1,6 +1,4 @@
-pub mod Thin
-pub mod ThinReading
-pub mod ThinPlan
 pub mod Answer
 pub mod Served
+pub mod Tells
 pub mod Lines

@@ -1,133 +1,182 @@
 -- What the words and the files ask for: which status is due, and what is to be written.
-use Rattle.std.specs.Prelude.{◌≡◌, ◌⊎◌, ◌<◌, ◌≤◌, ◌==◌, Bool, true, false, List, [], ◌∷◌, length, Option, Some, None, Result, Ok, Err, codes}
+use Rattle.std.specs.Prelude.{◌≡◌, ◌⊎◌, ℕ, ◌+◌, ◌-◌, Bool, true, false, nat_le, min, List, [], ◌∷◌, length, Option, Some, None, Result, Ok, Err, if◌then◌else◌}
 use Rattle.al_value.specs.declared.value.Value.{Value}
 use Rattle.al_io.specs.Outside.{Bytes, Files}
 use Rattle.al_csv.specs.Records.{records}
-use Rattle.al_query.specs.declared.status.RefusedKind.{RefusedKind}
-use Rattle.al_query.specs.declared.status.RefusedKind.TheVariants as refused
-use Rattle.al_query.specs.declared.status.Refused.{Refused}
+use Rattle.al_csv.specs.Generator.{generated}
+use Rattle.al_csv.specs.declared.decl.Decl.{Decl}
 use Rattle.al_csv.specs.declared.refused.DataKind.{DataKind}
 use Rattle.al_csv.specs.declared.refused.DataKind.TheVariants as kind
 use Rattle.al_csv.specs.declared.refused.BadRecord.{BadRecord}
+use Rattle.al_words.specs.declared.command.Command.{Command}
+use Rattle.al_words.specs.declared.command.Command.TheVariants as C
+use Rattle.al_words.specs.Words.{IsCommand}
+use Rattle.al_plan.specs.declared.file.PlanFile.{PlanFile}
+use Rattle.al_plan.specs.declared.file.Refused.{Refused}
+use Rattle.al_plan.specs.declared.file.RefusedKind.TheVariants as refused
+use Rattle.al_plan.specs.Allows.{Faults}
+use Rattle.al_plan.specs.Accept.{IsAccepted, accept_refusal}
+use Rattle.al_read.specs.Reads.{Reads, IsReadRefusal, refusal}
+use Rattle.al_plain.specs.declared.plan.Data.{Data}
+use Rattle.al_plain.specs.Gives.{sets_of}
+use Rattle.al_print.specs.Canonical.{plan_text}
 use Rattle.al_query.specs.declared.status.DataRefused.{DataRefused}
 use Rattle.al_query.specs.declared.status.Status.{Status}
 use Rattle.al_query.specs.declared.status.Status.TheVariants as St
-use Rattle.al_query.specs.declared.thin.ThinFile.{ThinFile}
-use Rattle.al_query.specs.Thin.{IsThinText}
-use Rattle.al_query.specs.ThinPlan.{decl_of, one_set, plan_of}
 use Rattle.al_query.specs.Answer.{IsAnswer}
 
--- a word that begins with `-`
-abbrev pub is_option : Bytes → Bool
-is_option [] = false
-is_option (b ∷ bs) = b == 45
+-- ---- plan files
 
--- the words are `step` and the name of a plan file
-abbrev pub IsStep : List Bytes → Bytes → Type 0
-IsStep words name = (words ≡ codes "step" ∷ name ∷ []) × (is_option name ≡ false)
+-- the plan file is there, states this plan, and is accepted
+abbrev pub IsPlan : Option Bytes → PlanFile → Type 0
+IsPlan file f = (bytes : Bytes) × (file ≡ Some bytes) × Reads bytes f × IsAccepted f
 
--- the plan file is there and states this plan
-abbrev pub IsPlan : Option Bytes → ThinFile → Type 0
-IsPlan file f = (bytes : Bytes) × (file ≡ Some bytes) × IsThinText bytes f
+-- why a plan file is refused: it is absent, or it has no reading, or what it states is not accepted
+pub data IsPlanRefused (file : Option Bytes) (r : Refused) : Type 0 where
+  absent : file ≡ None → r ≡ refusal refused.Absent 0 → IsPlanRefused file r
+  unread : (bytes : Bytes) → file ≡ Some bytes → IsReadRefusal bytes r → IsPlanRefused file r
+  unaccepted : (bytes : Bytes) → file ≡ Some bytes → (f : PlanFile) → Reads bytes f → accept_refusal f ≡ Some r → IsPlanRefused file r
 
--- why a plan file is refused: it is absent, or it is there and is no text of the form
-abbrev pub IsRefusedAs : RefusedKind → Option Bytes → Type 0
-IsRefusedAs refused.Absent file = file ≡ None
-IsRefusedAs refused.Unbuilt file = (bytes : Bytes) × (file ≡ Some bytes) × ((f : ThinFile) → IsThinText bytes f → ⊥)
-
-abbrev pub IsPlanRefused : Option Bytes → Refused → Type 0
-IsPlanRefused file r = (r.place ≡ 0) × IsRefusedAs r.kind file
-
--- the data file is there, within the limit, and these are its records
-abbrev pub IsData : ThinFile → Option Bytes → List (List Value) → Type 0
-IsData f file rows = (bytes : Bytes) × (file ≡ Some bytes) × (length bytes ≤ 33554432) × (records (decl_of f).columns bytes ≡ Ok rows)
+-- ---- data files
 
 -- what is wrong with a whole file
 abbrev pub of_file : DataKind → BadRecord
 of_file k = record { kind = k; number = 0; column = 0 }
 
--- why a data file is refused: it is absent, it passes the limit, or it has a bad record, of which the first counts
-pub data IsBadData (f : ThinFile) (file : Option Bytes) (bad : BadRecord) : Type 0 where
-  absent : file ≡ None → bad ≡ of_file kind.Absent → IsBadData f file bad
-  too_large : (bytes : Bytes) → file ≡ Some bytes → 33554432 < length bytes → bad ≡ of_file kind.TooLarge → IsBadData f file bad
-  bad_record : (bytes : Bytes) → file ≡ Some bytes → length bytes ≤ 33554432 → records (decl_of f).columns bytes ≡ Err bad → IsBadData f file bad
+-- the most bytes of a file behind so many bytes of others: 33,554,432, and 67,108,864 with the others
+abbrev pub room_behind : ℕ → ℕ
+room_behind before = min 33554432 (67108864 - before)
 
-pub record IsDataRefused (f : ThinFile) (file : Option Bytes) (d : DataRefused) : Type 0 where
-  pub named : d.file ≡ f.file
-  pub is : IsBadData f file d.bad
+-- the rows of a dataset's file, or what is wrong with it
+abbrev pub file_rows : ℕ → Decl → Option Bytes → Result (List (List Value)) BadRecord
+file_rows before d None = Err (of_file kind.Absent)
+file_rows before d (Some bytes) = if nat_le (length bytes) (room_behind before) then records d.columns bytes else Err (of_file kind.TooLarge)
 
--- the plan file and the data file are good
-abbrev pub IsGood : Files → Bytes → Type 0
-IsGood files name = (f : ThinFile) × (rows : List (List Value)) × IsPlan (files name) f × IsData f (files f.file) rows
+abbrev pub size_of : Option Bytes → ℕ
+size_of None = 0
+size_of (Some bytes) = length bytes
+
+-- a dataset before the others, or the first refusal
+abbrev pub with_set : Decl → Result (List (List Value)) BadRecord → Result (List Data) DataRefused → Result (List Data) DataRefused
+with_set d (Err bad) others = Err (record { file = d.file; bad = bad })
+with_set d (Ok rows) (Err e) = Err e
+with_set d (Ok rows) (Ok sets) = Ok (record { name = d.name; rows = rows } ∷ sets)
+
+-- the datasets in the order of their declaration, or the first file that is refused; so many bytes of others stand before
+unfoldable pub loaded : Files → ℕ → List Decl → Result (List Data) DataRefused
+loaded files before [] = Ok []
+loaded files before (d ∷ ds) = with_set d (file_rows before d (files d.file)) (loaded files (before + size_of (files d.file)) ds)
+
+-- ---- what a command writes
 
 -- these bytes are an answer of the plan over its data
 pub record IsServed (files : Files) (name text : Bytes) : Type 0 where
-  pub file : ThinFile
+  pub file : PlanFile
   pub plan : IsPlan (files name) file
-  pub rows : List (List Value)
-  pub records : IsData file (files file.file) rows
-  pub answer : IsAnswer (plan_of file) (one_set file.set rows) text
+  pub sets : List Data
+  pub data_read : loaded files 0 file.datasets ≡ Ok sets
+  pub answer : IsAnswer file.root (sets_of sets) text
 
--- a status that the words and the files determine
-abbrev pub is_settled : Status → Bool
-is_settled St.SourceFault = false
-is_settled St.SinkFault = false
-is_settled St.NoMemory = false
-is_settled _ = true
+-- these bytes are the canonical text of the plan file
+abbrev pub IsPrinted : Files → Bytes → Bytes → Type 0
+IsPrinted files name text = (f : PlanFile) × IsPlan (files name) f × (text ≡ plan_text f)
+
+-- the bytes that a command writes; the others are not served yet
+abbrev pub IsText : Command → Files → Bytes → Type 0
+IsText (C.Check plan) files text = IsPrinted files plan text
+IsText (C.Explain plan partitions) files text = ⊥
+IsText (C.Plain plan) files text = IsServed files plan text
+IsText (C.Step plan settings schedule) files text = IsServed files plan text
+IsText (C.Run plan settings workers) files text = ⊥
+IsText (C.Gen seed rows) files text = text ≡ generated seed rows
+IsText (C.Drill seed rows plan settings) files text = ⊥
+IsText (C.Frames plan dataset frame_size) files text = ⊥
+
+abbrev pub is_served : Command → Bool
+is_served (C.Check plan) = true
+is_served (C.Explain plan partitions) = false
+is_served (C.Plain plan) = true
+is_served (C.Step plan settings schedule) = true
+is_served (C.Run plan settings workers) = false
+is_served (C.Gen seed rows) = true
+is_served (C.Drill seed rows plan settings) = false
+is_served (C.Frames plan dataset frame_size) = false
+
+-- the plan file of a command that is served
+abbrev pub plan_of : Command → Option Bytes
+plan_of (C.Check plan) = Some plan
+plan_of (C.Plain plan) = Some plan
+plan_of (C.Step plan settings schedule) = Some plan
+plan_of _ = None
+
+-- the plan file of a command that reads its data
+abbrev pub query_of : Command → Option Bytes
+query_of (C.Plain plan) = Some plan
+query_of (C.Step plan settings schedule) = Some plan
+query_of _ = None
+
+-- ---- which status is due
+
+-- the plan file is good and a file of its data is refused
+abbrev pub IsBadData : Files → Bytes → DataRefused → Type 0
+IsBadData files name d = (f : PlanFile) × IsPlan (files name) f × (loaded files 0 f.datasets ≡ Err d)
+
+-- a check of that name faults over good data
+abbrev pub IsFaulty : Files → Bytes → Bytes → Type 0
+IsFaulty files name own = (f : PlanFile) × (sets : List Data) × IsPlan (files name) f × (loaded files 0 f.datasets ≡ Ok sets) × Faults f.root (sets_of sets) [] [] own
+
+-- the plan and its data are good, and no check faults
+abbrev pub IsSound : Files → Bytes → Type 0
+IsSound files name =
+    (f : PlanFile) × (sets : List Data) × IsPlan (files name) f × (loaded files 0 f.datasets ≡ Ok sets) × ((own : Bytes) → Faults f.root (sets_of sets) [] [] own → ⊥)
+
+-- a command asks for this status
+abbrev pub IsAsked : Command → Files → Status → Type 0
+IsAsked c files St.Done = (text : Bytes) × IsText c files text
+IsAsked c files St.Usage = is_served c ≡ false
+IsAsked c files (St.PlanRefused r) = (plan : Bytes) × (plan_of c ≡ Some plan) × IsPlanRefused (files plan) r
+IsAsked c files (St.DataRefused d) = (plan : Bytes) × (query_of c ≡ Some plan) × IsBadData files plan d
+IsAsked c files (St.CheckFailed own) = (plan : Bytes) × (query_of c ≡ Some plan) × IsFaulty files plan own
+IsAsked c files St.SourceFault = Unit {0}
+IsAsked c files St.SinkFault = (text : Bytes) × IsText c files text
+IsAsked c files St.NoMemory = Unit {0}
 
 -- the words and the files ask for this status
 abbrev pub IsDue : List Bytes → Files → Status → Type 0
-IsDue words files St.Usage = (name : Bytes) → IsStep words name → ⊥
-IsDue words files (St.PlanRefused r) = (name : Bytes) × IsStep words name × IsPlanRefused (files name) r
-IsDue words files (St.DataRefused d) = (name : Bytes) × (f : ThinFile) × IsStep words name × IsPlan (files name) f × IsDataRefused f (files f.file) d
-IsDue words files St.Done = (name : Bytes) × IsStep words name × IsGood files name
+IsDue words files St.Usage = (c : Command) → IsCommand words c → is_served c ≡ false
+IsDue words files St.Done = (c : Command) × IsCommand words c × IsAsked c files St.Done
+IsDue words files (St.PlanRefused r) = (c : Command) × IsCommand words c × IsAsked c files (St.PlanRefused r)
+IsDue words files (St.DataRefused d) = (c : Command) × IsCommand words c × IsAsked c files (St.DataRefused d)
+IsDue words files (St.CheckFailed own) = (c : Command) × IsCommand words c × IsAsked c files (St.CheckFailed own)
 IsDue words files St.SourceFault = Unit {0}
-IsDue words files St.SinkFault = (name : Bytes) × IsStep words name × IsGood files name
+IsDue words files St.SinkFault = (c : Command) × IsCommand words c × IsAsked c files St.SinkFault
 IsDue words files St.NoMemory = Unit {0}
 
--- a status that reading and computing may end with
-abbrev pub IsStop : Status → Type 0
-IsStop St.Done = ⊥
-IsStop St.Usage = ⊥
-IsStop St.SinkFault = ⊥
-IsStop _ = Unit {0}
+-- a command that is served, with good files
+abbrev pub IsGood : Command → Files → Type 0
+IsGood (C.Check plan) files = (f : PlanFile) × IsPlan (files plan) f
+IsGood (C.Explain plan partitions) files = ⊥
+IsGood (C.Plain plan) files = IsSound files plan
+IsGood (C.Step plan settings schedule) files = IsSound files plan
+IsGood (C.Run plan settings workers) files = ⊥
+IsGood (C.Gen seed rows) files = Unit {0}
+IsGood (C.Drill seed rows plan settings) files = ⊥
+IsGood (C.Frames plan dataset frame_size) files = ⊥
 
--- what reading the plan file gave
-abbrev pub TellsPlan : Option Bytes → Result ThinFile Status → Type 0
-TellsPlan file (Ok f) = IsPlan file f
-TellsPlan file (Err (St.PlanRefused r)) = IsPlanRefused file r
-TellsPlan file (Err St.SourceFault) = Unit {0}
-TellsPlan file (Err St.NoMemory) = Unit {0}
-TellsPlan file (Err _) = ⊥
+-- a refusal, which the words and the files determine
+abbrev pub is_settled : Status → Bool
+is_settled St.Usage = true
+is_settled (St.PlanRefused r) = true
+is_settled (St.DataRefused d) = true
+is_settled _ = false
 
--- what reading the data file gave
-abbrev pub TellsData : ThinFile → Option Bytes → Result (List (List Value)) Status → Type 0
-TellsData f file (Ok rows) = IsData f file rows
-TellsData f file (Err (St.DataRefused d)) = IsDataRefused f file d
-TellsData f file (Err St.SourceFault) = Unit {0}
-TellsData f file (Err St.NoMemory) = Unit {0}
-TellsData f file (Err _) = ⊥
+-- a status that came before what is due
+abbrev pub is_cut : Status → Bool
+is_cut St.SourceFault = true
+is_cut St.SinkFault = true
+is_cut St.NoMemory = true
+is_cut _ = false
 
--- what making the answer's text gave
-abbrev pub TellsAnswer : Files → Bytes → Result Bytes Status → Type 0
-TellsAnswer files name (Ok text) = IsServed files name text
-TellsAnswer files name (Err (St.PlanRefused r)) = IsPlanRefused (files name) r
-TellsAnswer files name (Err (St.DataRefused d)) = (f : ThinFile) × IsPlan (files name) f × IsDataRefused f (files f.file) d
-TellsAnswer files name (Err St.SourceFault) = Unit {0}
-TellsAnswer files name (Err St.NoMemory) = Unit {0}
-TellsAnswer files name (Err _) = ⊥
-
--- a call ended by a fault of the source
-abbrev pub is_source_fault : {T : Type 0} → Result T Status → Bool
-is_source_fault (Err St.SourceFault) = true
-is_source_fault _ = false
-
--- the words and the files determine the status, unless a fault or want of memory came first
-abbrev pub IsDueOrFault : Status → Status → Type 0
-IsDueOrFault due status = (status ≡ due) ⊎ (is_settled status ≡ false)
-
--- a refusal of this data file, or want of memory
-abbrev pub Refuses : Bytes → BadRecord → Status → Type 0
-Refuses name bad (St.DataRefused d) = (d.file ≡ name) × (d.bad ≡ bad)
-Refuses name bad St.NoMemory = Unit {0}
-Refuses name bad _ = ⊥
+-- what is due is the status, unless a fault outside or want of memory came first
+abbrev pub IsDueOrCut : Status → Status → Type 0
+IsDueOrCut due status = (status ≡ due) ⊎ (is_cut status ≡ true)

@@ -1,97 +1,77 @@
-ghost use Rattle.std.specs.Prelude.{◌≡◌, IfOk, map, filter};
-ghost use Rattle.al_value.specs.declared.value.Value.TheVariants as V;
-ghost use Rattle.al_plan.specs.Eval.{bind, holds};
-ghost use Rattle.al_query.specs.declared.thin.ThinFile.{ThinFile};
-ghost use Rattle.al_query.specs.ThinPlan.{condition, decl_of, one_set, plan_of, row_of, vars_of};
-ghost use Rattle.al_query.specs.Answer.{IsAnswer};
+//! Answers of plans over the files of their datasets.
 
-use crate::thin::ThinFile;
-use al_csv::{Column, Decl, Kind, out_text};
-use al_value::{List, Name, NoMemory, Row, Value, eq3};
+ghost use Rattle.std.specs.Prelude.{◌≡◌, [], false, IfOk, IfErr, map};
+ghost use Rattle.al_io.specs.Outside.{Counted, Told};
+ghost use Rattle.al_csv.specs.OutText as spec;
+ghost use Rattle.al_plan.specs.Accept.{IsAccepted};
+ghost use Rattle.al_plan.specs.Allows as meaning;
+ghost use Rattle.al_plan.specs.Refines.{Fit};
+ghost use Rattle.al_query.specs.Tells.{AreSetsOf, IsStop, TellsAnswer, TellsEvaluated, is_source_fault};
+
+use crate::data::load_all;
+use crate::plan::read_accepted;
+use crate::status::Status;
+use al_csv::out_text;
+use al_infer::acceptance_laws;
+use al_io::Source;
+use al_plain::{Data, PlainFault, evaluate};
+use al_plan::{PlanFile, Var, live};
+use al_value::{List, Name, NoMemory, Row};
 use std::alloc::Global;
 
-/// The declaration of the dataset, all of whose columns are texts.
-pub fn declaration(alloc: Global, file: &ThinFile) -> Result<Decl, NoMemory>
-    ensures { IfOk result (λ decl. decl ≡ decl_of file.now) }
+/// The text of the plan's answer, all of which is made before anything is written.
+pub fn answer<S: Source>(alloc: Global, name: &str, source: &mut S) -> Result<List<u8>, Status>
+    ensures tells { Told (S.files source.old) (λ fs. TellsAnswer fs name.now result) }
+    ensures stops { IfErr result IsStop }
+    ensures cause { Counted (is_source_fault result) (S.faults source.old) (S.faults source.new) }
 {
-    let mut columns = List::new(alloc);
-    for name in file.columns.as_slice() {
-        columns.push(Column {
-            name: name.copy(alloc)?,
-            kind: Kind::Text,
-        })?;
-    }
-    Ok(Decl {
-        name: file.set.copy(alloc)?,
-        file: file.file.copy(alloc)?,
-        columns,
-    })
+    let boxed = match read_accepted(alloc, name, source) {
+        Ok(boxed) => boxed,
+        Err(status) => return Err(status),
+    };
+    let file = boxed.get();
+    let sets = match load_all(alloc, file.datasets.as_slice(), source) {
+        Ok(sets) => sets,
+        Err(status) => return Err(status),
+    };
+    answer_text(alloc, file, sets.as_slice())
 }
 
-#[tactic(auto, using(al_plan::proofs::EvalLaws::bind_laws))]
-/// The value of a variable in the row of these variables, and `none` where there is none.
-fn value_of<'a>(vars: &[Name], row: &'a [Value], name: &Name, none: &'a Value) -> &'a Value
-    requires { none.now ≡ V.Null }
-    ensures { result.now ≡ bind (vars_of vars.now) row.now name.now }
+/// The text of the plan's answer over its datasets.
+fn answer_text(alloc: Global, file: &PlanFile, sets: &[Data]) -> Result<List<u8>, Status>
+    requires fits { Fit file.now.root }
+    requires accepted { IsAccepted file.now }
+    requires data { AreSetsOf file.now.datasets sets.now }
+    ensures tells { TellsEvaluated file.now sets.now result }
+    ensures stops { IfErr result IsStop }
+    ensures cause { is_source_fault result ≡ false }
 {
-    match vars {
-        [] => none,
-        [var, vars @ ..] => match row {
-            [] => none,
-            [value, row @ ..] => {
-                if var == name {
-                    value
-                } else {
-                    value_of(vars, row, name, none)
-                }
-            }
+    acceptance_laws();
+    match evaluate(alloc, &file.root, sets) {
+        Ok(rows) => match rows_text(alloc, file, rows.as_slice()) {
+            Ok(text) => Ok(text),
+            Err(NoMemory) => Err(Status::NoMemory),
         },
+        Err(PlainFault::Check(name)) => Err(Status::CheckFailed(name)),
+        Err(PlainFault::NoMemory) => Err(Status::NoMemory),
     }
 }
 
-#[tactic(auto, using(al_plan::proofs::EvalLaws::eval_laws), unfolding(al_func::specs::Func::apply))]
-/// Whether the select keeps a row; `wanted` is the text with which it compares.
-fn keeps(file: &ThinFile, wanted: &Value, row: &[Value]) -> bool
-    requires { wanted.now ≡ V.Text file.now.text }
-    ensures { result ≡ holds (condition file.now) (row_of file.now row.now) }
+fn names_of(alloc: Global, vars: &[Var]) -> Result<List<Name>, NoMemory>
+    ensures { IfOk result (λ names. names ≡ map (λ v. v.name) vars.now) }
 {
-    let none = Value::Null;
-    let value = value_of(file.scanned.as_slice(), row, &file.key, &none);
-    eq3(value, wanted) == Some(true)
-}
-
-/// A row cut to the variables of the result.
-fn listed_row(alloc: Global, file: &ThinFile, row: &[Value]) -> Result<Row, NoMemory>
-    ensures { IfOk result (λ cut. cut ≡ map (row_of file.now row.now) file.now.listed) }
-{
-    let none = Value::Null;
-    let mut values = List::new(alloc);
-    for name in file.listed.as_slice() {
-        let value = value_of(file.scanned.as_slice(), row, name, &none);
-        values.push(value.copy(alloc)?)?;
+    let mut names = List::new(alloc);
+    for v in vars {
+        names.push(v.name.copy(alloc)?)?;
     }
-    Ok(Row::from_list(values))
+    Ok(names)
 }
 
-/// The rows that the select keeps, in their order, each cut to the variables of the result.
-fn listed_rows(alloc: Global, file: &ThinFile, rows: &[Row]) -> Result<List<Row>, NoMemory>
-    ensures { IfOk result (λ answer. answer ≡ map (λ row. map (row_of file.now row) file.now.listed)
-        (filter (λ row. holds (condition file.now) (row_of file.now row)) rows.now)) }
+/// The result text of rows whose values stand in the order of the live variables.
+fn rows_text(alloc: Global, file: &PlanFile, rows: &[Row]) -> Result<List<u8>, NoMemory>
+    ensures { IfOk result (λ text. text ≡ spec.out_text (map (λ v. v.name) (meaning.live file.now.root [])) rows.now) }
 {
-    let wanted = Value::Text(file.text.copy(alloc)?);
-    let mut answer = List::new(alloc);
-    for row in rows {
-        if keeps(file, &wanted, row.as_slice()) {
-            answer.push(listed_row(alloc, file, row.as_slice())?)?;
-        }
-    }
-    Ok(answer)
-}
-
-/// The text of the plan's answer over the rows of its dataset.
-pub fn answer_text(alloc: Global, file: &ThinFile, rows: &[Row]) -> Result<List<u8>, NoMemory>
-    ensures { IfOk result (IsAnswer (plan_of file.now) (one_set file.now.set rows.now)) }
-{
-    let answer = listed_rows(alloc, file, rows)?;
-    out_text(alloc, file.listed.as_slice(), answer.as_slice())
+    let vars = live(alloc, &file.root)?;
+    let names = names_of(alloc, vars.as_slice())?;
+    out_text(alloc, names.as_slice(), rows)
 }

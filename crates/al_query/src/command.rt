@@ -1,19 +1,26 @@
-ghost use Rattle.std.specs.Prelude.{◌≡◌, ◌≢◌, ◌⊎◌, ◌↔◌, ◌<◌, ◌≤◌, ◌++◌, ◌-◌, ◌^◌, Some, length, map, string_bytes, IfErr, MatchOption, true, false};
+//! The commands of the program.
+
+ghost use Rattle.std.specs.Prelude.{◌≡◌, ◌≢◌, ◌⊎◌, ℕ, ◌<◌, ◌++◌, ◌-◌, ◌^◌, Some, map, not, string_bytes, IfErr, true, false};
 ghost use Rattle.al_io.specs.Outside.{Bytes, Counted, GainsPrefix, Rose, Told};
+ghost use Rattle.al_words.specs.declared.command.Command.{Command as Asked};
+ghost use Rattle.al_words.specs.declared.command.Command.TheVariants as asked;
+ghost use Rattle.al_words.specs.Words.{IsCommand};
 ghost use Rattle.al_query.specs.declared.status.Status.{Status as Ended};
 ghost use Rattle.al_query.specs.Lines.{status_line};
-ghost use Rattle.al_query.specs.Served.{IsDue, IsDueOrFault, IsGood, IsServed, IsStep, IsStop, Refuses, TellsAnswer, TellsData, TellsPlan, is_settled, is_source_fault, of_file};
+ghost use Rattle.al_query.specs.Served.{IsDue, IsDueOrCut, IsGood, IsText, is_served, is_settled};
+ghost use Rattle.al_query.specs.Tells.{IsNoEnd, IsStop, TellsPrinted, TellsText, is_idle, is_source_fault, is_usage};
 
-use crate::answer::{answer_text, declaration};
-use crate::status::{DataRefused, Refused, RefusedKind, Status};
-use crate::thin::{MAX_PLAN, ThinFile, ThinRefused, read_thin};
-use al_csv::{BadRecord, DataKind, LoadRefused, load};
-use al_io::{FileRead, ReadFault, Sink, Source, read_file, write_whole};
-use al_value::{Failed, List, Name, NoMemory, Row};
+use crate::answer::answer;
+use crate::plan::read_accepted;
+use crate::status::Status;
+use al_csv::generate;
+use al_infer::acceptance_laws;
+use al_io::{Sink, Source, write_whole};
+use al_print::print_plan;
+use al_read::one_plan_reading;
+use al_value::{Failed, List, NoMemory};
+use al_words::{Command, WordsFault, one_command, read_words};
 use std::alloc::Global;
-
-/// The most bytes of a data file.
-pub const MAX_DATA: usize = 33_554_432;
 
 /// Serves the command of the words, and tells of its status by one line on `err`. A fault of
 /// `err` changes no status.
@@ -24,21 +31,24 @@ pub fn plain_command<S: Source, K: Sink, E: Sink>(
     out: &mut K,
     err: &mut E,
 ) -> Status
-    // The headline: what `out` gained is the text of an answer that the plan allows.
+    // The headline: what `out` gained is the text that the command asks for. For `plain` and `step`
+    // it is the text of an answer that the plan allows over the records of its data files.
     ensures done { result ≡ Status.Done → Told (S.files source.old) (λ fs. Told (K.written out.old)
-        (λ was. (name : Bytes) × (text : Bytes) × IsStep (map string_bytes words.now) name × IsServed fs name text × (K.written out.new ≡ Some (was ++ text)))) }
+        (λ was. (c : Asked) × (text : Bytes) × IsCommand (map string_bytes words.now) c × IsText c fs text × (K.written out.new ≡ Some (was ++ text)))) }
     ensures sink_part { result ≡ Status.SinkFault → Told (S.files source.old) (λ fs. Told (K.written out.old)
-        (λ was. (name : Bytes) × (text : Bytes) × IsStep (map string_bytes words.now) name × IsServed fs name text × GainsPrefix was text (K.written out.new))) }
+        (λ was. (c : Asked) × (text : Bytes) × IsCommand (map string_bytes words.now) c × IsText c fs text × GainsPrefix was text (K.written out.new))) }
     ensures untouched { result ≢ Status.Done → result ≢ Status.SinkFault → K.written out.new ≡ K.written out.old }
 
     // Each answer has its cause, and the cause brings the answer unless a fault came first.
-    ensures usage { (result ≡ Status.Usage) ↔ ((name : Bytes) → IsStep (map string_bytes words.now) name → ⊥) }
+    ensures usage { result ≡ Status.Usage → (c : Asked) → IsCommand (map string_bytes words.now) c → is_served c ≡ false }
+    ensures refused_words { ((c : Asked) → IsCommand (map string_bytes words.now) c → is_served c ≡ false) → (result ≡ Status.Usage) ⊎ (result ≡ Status.NoMemory) }
     ensures cause { Told (S.files source.old) (λ fs. IsDue (map string_bytes words.now) fs result) }
-    ensures exact { Told (S.files source.old) (λ fs. (due : Ended) → is_settled due ≡ true → IsDue (map string_bytes words.now) fs due → IsDueOrFault due result) }
-    ensures complete { Told (S.files source.old) (λ fs. (name : Bytes) → IsStep (map string_bytes words.now) name → IsGood fs name
+    ensures exact { Told (S.files source.old) (λ fs. (due : Ended) → is_settled due ≡ true → IsDue (map string_bytes words.now) fs due → IsDueOrCut due result) }
+    ensures complete { Told (S.files source.old) (λ fs. (c : Asked) → IsCommand (map string_bytes words.now) c → IsGood c fs
         → ¬ Rose (S.faults source.old) (S.faults source.new)
         → ¬ Rose (K.faults out.old) (K.faults out.new)
         → (result ≡ Status.Done) ⊎ (result ≡ Status.NoMemory)) }
+    ensures idle { (seed rows : ℕ) → (result ≡ Status.Usage) ⊎ IsCommand (map string_bytes words.now) (asked.Gen seed rows) → source.new ≡ source.old }
     ensures source_fault { result ≡ Status.SourceFault → Rose (S.faults source.old) (S.faults source.new) }
     ensures source_quiet { result ≢ Status.SourceFault → S.faults source.new ≡ S.faults source.old }
     ensures sink_fault { result ≡ Status.SinkFault → Rose (K.faults out.old) (K.faults out.new) }
@@ -49,6 +59,9 @@ pub fn plain_command<S: Source, K: Sink, E: Sink>(
         → Told (E.written err.old) (λ was. E.written err.new ≡ Some (was ++ status_line result)) }
     ensures line_part { Told (E.written err.old) (λ was. GainsPrefix was (status_line result) (E.written err.new)) }
 {
+    one_command();
+    one_plan_reading();
+    acceptance_laws();
     let status = serve(alloc, words, source, out);
     let _ = status.write_line(err);
     status
@@ -57,21 +70,26 @@ pub fn plain_command<S: Source, K: Sink, E: Sink>(
 /// Serves the command of the words.
 fn serve<S: Source, K: Sink>(alloc: Global, words: &[String], source: &mut S, out: &mut K) -> Status
     ensures done { result ≡ Status.Done → Told (S.files source.old) (λ fs. Told (K.written out.old)
-        (λ was. (name : Bytes) × (text : Bytes) × IsStep (map string_bytes words.now) name × IsServed fs name text × (K.written out.new ≡ Some (was ++ text)))) }
+        (λ was. (c : Asked) × (text : Bytes) × IsCommand (map string_bytes words.now) c × IsText c fs text × (K.written out.new ≡ Some (was ++ text)))) }
     ensures sink_part { result ≡ Status.SinkFault → Told (S.files source.old) (λ fs. Told (K.written out.old)
-        (λ was. (name : Bytes) × (text : Bytes) × IsStep (map string_bytes words.now) name × IsServed fs name text × GainsPrefix was text (K.written out.new))) }
+        (λ was. (c : Asked) × (text : Bytes) × IsCommand (map string_bytes words.now) c × IsText c fs text × GainsPrefix was text (K.written out.new))) }
     ensures untouched { result ≢ Status.Done → result ≢ Status.SinkFault → K.written out.new ≡ K.written out.old }
-    ensures usage { (result ≡ Status.Usage) ↔ ((name : Bytes) → IsStep (map string_bytes words.now) name → ⊥) }
+    ensures usage { result ≡ Status.Usage → (c : Asked) → IsCommand (map string_bytes words.now) c → is_served c ≡ false }
+    ensures refused_words { ((c : Asked) → IsCommand (map string_bytes words.now) c → is_served c ≡ false) → (result ≡ Status.Usage) ⊎ (result ≡ Status.NoMemory) }
     ensures cause { Told (S.files source.old) (λ fs. IsDue (map string_bytes words.now) fs result) }
+    ensures idle { (seed rows : ℕ) → (result ≡ Status.Usage) ⊎ IsCommand (map string_bytes words.now) (asked.Gen seed rows) → source.new ≡ source.old }
     ensures source_fault { result ≡ Status.SourceFault → Rose (S.faults source.old) (S.faults source.new) }
     ensures source_quiet { result ≢ Status.SourceFault → S.faults source.new ≡ S.faults source.old }
     ensures sink_fault { result ≡ Status.SinkFault → Rose (K.faults out.old) (K.faults out.new) }
     ensures sink_quiet { result ≢ Status.SinkFault → K.faults out.new ≡ K.faults out.old }
 {
-    let Some(name) = plan_name(words) else {
-        return Status::Usage;
+    one_command();
+    let command = match read_words(alloc, words) {
+        Ok(command) => command,
+        Err(WordsFault::Usage) => return Status::Usage,
+        Err(WordsFault::NoMemory) => return Status::NoMemory,
     };
-    let text = match answer(alloc, name, source) {
+    let text = match command_text(alloc, &command, source) {
         Ok(text) => text,
         Err(status) => return status,
     };
@@ -81,112 +99,45 @@ fn serve<S: Source, K: Sink>(alloc: Global, words: &[String], source: &mut S, ou
     }
 }
 
-/// The plan file that the words name.
-fn plan_name(words: &[String]) -> Option<&str>
-    ensures { MatchOption result ((name : Bytes) → IsStep (map string_bytes words.now) name → ⊥) (λ name. IsStep (map string_bytes words.now) name.now) }
+/// The text that a command writes, all of which is made before anything is written.
+fn command_text<S: Source>(
+    alloc: Global,
+    command: &Command,
+    source: &mut S,
+) -> Result<List<u8>, Status>
+    ensures tells { Told (S.files source.old) (λ fs. TellsText command.now fs result) }
+    ensures stops { IfErr result IsNoEnd }
+    ensures usage { is_usage result ≡ not (is_served command.now) }
+    ensures idle { is_idle command.now ≡ true → source.new ≡ source.old }
+    ensures cause { Counted (is_source_fault result) (S.faults source.old) (S.faults source.new) }
 {
-    match words {
-        [command, name] => {
-            let name = name.as_str();
-            if command.as_str() == "step" && !name.starts_with('-') {
-                Some(name)
-            } else {
-                None
-            }
-        }
-        _ => None,
+    match command {
+        Command::Check { plan } => printed(alloc, plan.as_str(), source),
+        Command::Plain { plan } => answer(alloc, plan.as_str(), source),
+        Command::Step { plan, .. } => answer(alloc, plan.as_str(), source),
+        Command::Gen { seed, rows } => match generate(alloc, *seed, *rows) {
+            Ok(text) => Ok(text),
+            Err(NoMemory) => Err(Status::NoMemory),
+        },
+        Command::Explain { .. } => Err(Status::Usage),
+        Command::Run { .. } => Err(Status::Usage),
+        Command::Drill { .. } => Err(Status::Usage),
+        Command::Frames { .. } => Err(Status::Usage),
     }
 }
 
-/// The text of the plan's answer, all of which is made before anything is written.
-fn answer<S: Source>(alloc: Global, name: &str, source: &mut S) -> Result<List<u8>, Status>
-    ensures tells { Told (S.files source.old) (λ fs. TellsAnswer fs name.now result) }
+/// The canonical text of a plan file that is accepted; no dataset is opened.
+fn printed<S: Source>(alloc: Global, name: &str, source: &mut S) -> Result<List<u8>, Status>
+    ensures tells { Told (S.files source.old) (λ fs. TellsPrinted fs name.now result) }
     ensures stops { IfErr result IsStop }
     ensures cause { Counted (is_source_fault result) (S.faults source.old) (S.faults source.new) }
 {
-    let file = read_plan(alloc, name, source)?;
-    let rows = match read_data(alloc, &file, source) {
-        Ok(rows) => rows,
+    let file = match read_accepted(alloc, name, source) {
+        Ok(file) => file,
         Err(status) => return Err(status),
     };
-    match answer_text(alloc, &file, rows.as_slice()) {
+    match print_plan(alloc, file.get()) {
         Ok(text) => Ok(text),
         Err(NoMemory) => Err(Status::NoMemory),
-    }
-}
-
-fn read_plan<S: Source>(alloc: Global, name: &str, source: &mut S) -> Result<ThinFile, Status>
-    ensures files { S.files source.new ≡ S.files source.old }
-    ensures tells { Told (S.files source.old) (λ fs. TellsPlan (fs name.now) result) }
-    ensures stops { IfErr result IsStop }
-    ensures cause { Counted (is_source_fault result) (S.faults source.old) (S.faults source.new) }
-{
-    match read_file(alloc, source, name, MAX_PLAN) {
-        Ok(FileRead::Bytes(bytes)) => match read_thin(alloc, bytes.as_slice()) {
-            Ok(file) => Ok(file),
-            Err(ThinRefused::NotThin) => Err(plan_refused(RefusedKind::Unbuilt)),
-            Err(ThinRefused::NoMemory) => Err(Status::NoMemory),
-        },
-        Ok(FileRead::TooLarge) => Err(plan_refused(RefusedKind::Unbuilt)),
-        Ok(FileRead::Absent) => Err(plan_refused(RefusedKind::Absent)),
-        Err(ReadFault::Failed) => Err(Status::SourceFault),
-        Err(ReadFault::NoMemory) => Err(Status::NoMemory),
-    }
-}
-
-fn plan_refused(kind: RefusedKind) -> Status
-    ensures { result ≡ Status.PlanRefused (record { kind = kind; place = 0 }) }
-{
-    Status::PlanRefused(Refused { kind, place: 0 })
-}
-
-fn read_data<S: Source>(alloc: Global, file: &ThinFile, source: &mut S) -> Result<List<Row>, Status>
-    ensures files { S.files source.new ≡ S.files source.old }
-    ensures tells { Told (S.files source.old) (λ fs. TellsData file.now (fs file.now.file) result) }
-    ensures stops { IfErr result IsStop }
-    ensures cause { Counted (is_source_fault result) (S.faults source.old) (S.faults source.new) }
-{
-    match read_file(alloc, source, file.file.as_str(), MAX_DATA) {
-        Ok(FileRead::Bytes(bytes)) => load_data(alloc, file, bytes.as_slice()),
-        Ok(FileRead::TooLarge) => Err(file_refused(alloc, &file.file, DataKind::TooLarge)),
-        Ok(FileRead::Absent) => Err(file_refused(alloc, &file.file, DataKind::Absent)),
-        Err(ReadFault::Failed) => Err(Status::SourceFault),
-        Err(ReadFault::NoMemory) => Err(Status::NoMemory),
-    }
-}
-
-fn load_data(alloc: Global, file: &ThinFile, bytes: &[u8]) -> Result<List<Row>, Status>
-    ensures tells { length bytes.now ≤ MAX_DATA → TellsData file.now (Some bytes.now) result }
-    ensures stops { IfErr result IsStop }
-    ensures cause { is_source_fault result ≡ false }
-{
-    let Ok(decl) = declaration(alloc, file) else {
-        return Err(Status::NoMemory);
-    };
-    match load(alloc, &decl, bytes) {
-        Ok(rows) => Ok(rows),
-        Err(LoadRefused::Bad(bad)) => Err(data_refused(alloc, &file.file, bad)),
-        Err(LoadRefused::NoMemory) => Err(Status::NoMemory),
-    }
-}
-
-/// The refusal of a whole data file.
-fn file_refused(alloc: Global, file: &Name, kind: DataKind) -> Status
-    ensures { Refuses file.now (of_file kind) result }
-{
-    let bad = BadRecord {
-        kind,
-        number: 0,
-        column: 0,
-    };
-    data_refused(alloc, file, bad)
-}
-
-fn data_refused(alloc: Global, file: &Name, bad: BadRecord) -> Status
-    ensures { Refuses file.now bad result }
-{
-    match file.copy(alloc) {
-        Ok(file) => Status::DataRefused(DataRefused { file, bad }),
-        Err(NoMemory) => Status::NoMemory,
     }
 }

@@ -3,12 +3,13 @@
 
 mod answer;
 mod command;
+mod data;
+mod plan;
 mod status;
-mod thin;
 
 pub use command::plain_command;
-pub use status::{DataRefused, Refused, RefusedKind, Status};
-pub use thin::{MAX_PLAN, ThinFile, ThinRefused, read_thin};
+pub use data::{MAX_ALL_DATA, MAX_DATA};
+pub use status::{DataRefused, Status};
 
 #[cfg(test)]
 mod tests;

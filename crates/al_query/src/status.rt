@@ -1,37 +1,32 @@
 ghost use Rattle.std.specs.Prelude.{◌≡◌, ◌++◌, Some, OnOk, OnErr};
 ghost use Rattle.al_io.specs.Outside.{Counted, failed, Told, GainsPrefix};
-ghost use Rattle.al_query.specs.Lines.{code_of, data_kind_name, data_line, place_line, plan_line, refused_kind_name, status_line};
+ghost use Rattle.al_query.specs.Lines.{check_line, code_of, data_kind_name, data_line, place_line, plan_line, refused_kind_name, status_line};
 
 use al_csv::{BadRecord, DataKind};
 use al_io::{Sink, write_pieces, write_whole};
-use al_value::{Failed, Name};
+use al_plan::{Refused, RefusedKind};
+use al_value::{Failed, Name, Text};
 use itoa::Buffer;
 
-/// What is wrong with a plan file.
-#[derive(Clone, Copy, Debug, PartialEq, Eq)]
-pub enum RefusedKind {
-    /// There is no such file.
-    Absent,
-    /// It is no accepted text of a form that is served.
-    Unbuilt,
-}
-
-impl RefusedKind {
-    fn name(self) -> &'static str
-        ensures { result.now ≡ refused_kind_name self }
-    {
-        match self {
-            RefusedKind::Absent => "Absent",
-            RefusedKind::Unbuilt => "Unbuilt",
-        }
+fn refused_kind_name(kind: RefusedKind) -> &'static str
+    ensures { result.now ≡ refused_kind_name kind }
+{
+    match kind {
+        RefusedKind::Absent => "Absent",
+        RefusedKind::Utf8 => "Utf8",
+        RefusedKind::Token => "Token",
+        RefusedKind::Form => "Form",
+        RefusedKind::Number => "Number",
+        RefusedKind::TooDeep => "TooDeep",
+        RefusedKind::TooLarge => "TooLarge",
+        RefusedKind::UnknownDataset => "UnknownDataset",
+        RefusedKind::WrongArity => "WrongArity",
+        RefusedKind::NotInNested => "NotInNested",
+        RefusedKind::UnionArity => "UnionArity",
+        RefusedKind::TwiceMade => "TwiceMade",
+        RefusedKind::NotLive => "NotLive",
+        RefusedKind::TooWide => "TooWide",
     }
-}
-
-/// A plan file that is refused, with the place in bytes from the start of its text.
-#[derive(Clone, Copy, Debug, PartialEq, Eq)]
-pub struct Refused {
-    pub kind: RefusedKind,
-    pub place: u32,
 }
 
 /// A data file that is refused, by the name that the plan file gives it, and its first bad
@@ -63,6 +58,8 @@ pub enum Status {
     Usage,
     PlanRefused(Refused),
     DataRefused(DataRefused),
+    /// A check of this name met a row on which its condition isn't TRUE.
+    CheckFailed(Text),
     SourceFault,
     SinkFault,
     NoMemory,
@@ -78,6 +75,7 @@ impl Status {
             Status::Usage => 1,
             Status::PlanRefused(_) => 2,
             Status::DataRefused(_) => 3,
+            Status::CheckFailed(_) => 4,
             Status::SourceFault => 5,
             Status::SinkFault => 6,
             Status::NoMemory => 8,
@@ -96,6 +94,7 @@ impl Status {
             Status::Usage => write_whole(err, b"usage: algebricks COMMAND ARGUMENTS [OPTIONS]\n"),
             Status::PlanRefused(refused) => write_plan_refused(*refused, err),
             Status::DataRefused(refused) => write_data_refused(refused, err),
+            Status::CheckFailed(name) => write_check_failed(name, err),
             Status::SourceFault => write_whole(err, b"source fault\n"),
             Status::SinkFault => write_whole(err, b"sink fault\n"),
             Status::NoMemory => write_whole(err, b"no memory\n"),
@@ -110,8 +109,30 @@ fn write_plan_refused<E: Sink>(refused: Refused, err: &mut E) -> Result<(), Fail
 {
     let mut buffer = Buffer::new();
     let place = buffer.format(refused.place).as_bytes();
-    let kind = refused.kind.name().as_bytes();
+    let kind = refused_kind_name(refused.kind).as_bytes();
     write_refusal(b"plan refused: ", kind, b" at ", place, b"\n", err)
+}
+
+fn write_check_failed<E: Sink>(name: &Text, err: &mut E) -> Result<(), Failed>
+    ensures ok { OnOk result (Told (E.written err.old) (λ old. E.written err.new ≡ Some (old ++ check_line name.now))) }
+    ensures part { OnErr result (Told (E.written err.old) (λ old. GainsPrefix old (check_line name.now) (E.written err.new))) }
+    ensures cause { Counted (failed result) (E.faults err.old) (E.faults err.new) }
+{
+    write_parts(b"check failed: ", name.as_str().as_bytes(), b"\n", err)
+}
+
+/// Writes a line of three parts.
+fn write_parts<'a, E: Sink>(
+    what: &'a [u8],
+    name: &'a [u8],
+    behind: &'a [u8],
+    err: &mut E,
+) -> Result<(), Failed>
+    ensures ok { OnOk result (Told (E.written err.old) (λ old. E.written err.new ≡ Some (old ++ (what.now ++ (name.now ++ behind.now))))) }
+    ensures part { OnErr result (Told (E.written err.old) (λ old. GainsPrefix old (what.now ++ (name.now ++ behind.now)) (E.written err.new))) }
+    ensures cause { Counted (failed result) (E.faults err.old) (E.faults err.new) }
+{
+    write_pieces(err, &[what, name, behind])
 }
 
 fn write_data_refused<E: Sink>(refused: &DataRefused, err: &mut E) -> Result<(), Failed>

@@ -1,2 +1,4 @@
 pub mod Tokens
 pub mod TokenReading
+pub mod Reads
+pub mod PlanReading

@@ -1,5 +1,5 @@
-use Rattle.al_query.proofs.ThinAnswers.{answered}
+use Rattle.al_query.proofs.Loads.{scans_fill}
 use Rattle.al_query.proofs.answer.answer_text.Goals as goal
 
-pub returns : goal.returns
-returns c = answered c.args.file.now c.args.rows.now c.in_ok-answer.answer c.as_slice-2.result.now c.as_slice.result.now c.out_text.result c.in_ok-answer.ensures c.as_slice.ensures c.as_slice-2.ensures c.out_text.ensures
+pub evaluate-requires-clause-fills : goal.evaluate-requires-clause-fills
+evaluate-requires-clause-fills c = scans_fill c.args.file.now c.args.sets.now (c.acceptance_laws.ensures.scans c.args.file.now c.requires.accepted) c.requires.data

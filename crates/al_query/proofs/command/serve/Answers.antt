@@ -1,5 +1,35 @@
-use Rattle.al_query.proofs.Refusals.{told_stopped}
+use Rattle.std.proofs.Common.{◌≡◌, ◌++◌, Some, inl, inr, refl}
+use Rattle.al_io.specs.Outside.{GainsPrefix}
+use Rattle.al_query.specs.declared.status.Status.TheVariants as St
+use Rattle.al_query.proofs.Steps.{idle_of, told_due_of, told_usage, told_wrote, unserved, usage_of}
 use Rattle.al_query.proofs.command.serve.Goals as goal
 
+pub returns-in-Err-Usage-clause-usage : goal.returns-in-Err-Usage-clause-usage
+returns-in-Err-Usage-clause-usage g c = λ e d is. absurd (c.in-Err-Usage.ensures c.in-Err-Usage.field-0-is d is)
+
+pub returns-in-Err-Usage-clause-cause : goal.returns-in-Err-Usage-clause-cause
+returns-in-Err-Usage-clause-cause g c = told_usage _ _ (c.in-Err-Usage.ensures c.in-Err-Usage.field-0-is)
+
+pub returns-in-Err-clause-usage : goal.returns-in-Err-clause-usage
+returns-in-Err-clause-usage g c = usage_of _ c.in-Ok.command c.in-Err.status c.one_command.ensures c.in-Ok.ensures c.in-Err.ensures.usage
+
 pub returns-in-Err-clause-cause : goal.returns-in-Err-clause-cause
-returns-in-Err-clause-cause g c = told_stopped _ _ c.in-Some.name.now c.in-Err.status c.in-Some.ensures c.in-Err.ensures.tells
+returns-in-Err-clause-cause g c = told_due_of _ _ c.in-Ok.command c.in-Err.status (c.one_command.ensures _) c.in-Ok.ensures c.in-Err.ensures.tells
+
+pub returns-in-Err-clause-idle : goal.returns-in-Err-clause-idle
+returns-in-Err-clause-idle g c =
+    idle_of _ c.in-Ok.command c.in-Err.status _ c.one_command.ensures c.in-Ok.ensures (unserved c.in-Ok.command c.in-Err.status c.in-Err.ensures.usage) c.in-Err.ensures.idle
+
+pub returns-in-Ok-write_whole-clause-done : goal.returns-in-Ok-write_whole-clause-done
+returns-in-Ok-write_whole-clause-done g c =
+    λ e. told_wrote _ _ _ c.in-Ok.command c.in-Ok-command_text.text (λ was text. g.K.Sink.written c.write_whole.new.sink ≡ Some (was ++ text)) c.in-Ok.ensures c.in-Ok-command_text.ensures.tells (rw c.as_slice.ensures at c.in-Ok-write_whole.ensures.ok)
+
+pub returns-in-Ok-write_whole-clause-idle : goal.returns-in-Ok-write_whole-clause-idle
+returns-in-Ok-write_whole-clause-idle g c = idle_of _ c.in-Ok.command St.Done _ c.one_command.ensures c.in-Ok.ensures (λ e. cc) c.in-Ok-command_text.ensures.idle
+
+pub returns-clause-sink_part : goal.returns-clause-sink_part
+returns-clause-sink_part g c =
+    λ e. told_wrote _ _ _ c.in-Ok.command c.in-Ok-command_text.text (λ was text. GainsPrefix was text (g.K.Sink.written c.write_whole.new.sink)) c.in-Ok.ensures c.in-Ok-command_text.ensures.tells (rw c.as_slice.ensures at c.in-Err-write_whole.ensures.err)
+
+pub returns-clause-idle : goal.returns-clause-idle
+returns-clause-idle g c = idle_of _ c.in-Ok.command St.SinkFault _ c.one_command.ensures c.in-Ok.ensures (λ e. cc) c.in-Ok-command_text.ensures.idle

@@ -1,0 +1,5 @@
+pub mod Simple
+pub mod Ordered
+pub mod Joined
+pub mod Nests
+pub mod Groups

@@ -1,0 +1,9 @@
+//! Worked cases: what small plans allow, and what not.
+#![tactic(auto)]
+
+mod cases;
+
+pub use cases::worked_cases;
+
+#[cfg(test)]
+mod tests;

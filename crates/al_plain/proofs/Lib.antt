@@ -1,0 +1,11 @@
+pub mod ApplyLaws
+pub mod ValueLaws
+pub mod KeptLaws
+pub mod CallLaws
+pub mod Lists
+pub mod BindLaws
+pub mod Places
+pub mod GivesLaws
+pub mod GroupLaws
+pub mod NestLaws
+pub mod RunLaws

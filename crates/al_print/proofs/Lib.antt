@@ -1,0 +1,4 @@
+pub mod LineLaws
+pub mod Spelling
+pub mod InRange
+pub mod ReadsBack
