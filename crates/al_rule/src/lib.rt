@@ -1,0 +1,14 @@
+//! Rules, sets of rules and the controllers that drive them, after Algebricks' rule controllers.
+#![tactic(auto)]
+
+mod drive;
+mod laws;
+mod names;
+mod rule;
+mod trace;
+
+pub use drive::{drive_fixpoint, drive_once};
+pub use laws::{chain_laws, join_laws, select_laws};
+pub use names::{RuleName, SetName};
+pub use rule::{ApplyFault, Rule, RuleSet};
+pub use trace::{Trace, TraceStep};

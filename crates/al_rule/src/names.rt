@@ -1,0 +1,51 @@
+/// A set of rules that is driven as one.
+#[derive(Clone, Copy, Debug, PartialEq, Eq)]
+pub enum SetName {
+    Split,
+    Select,
+    Join,
+    Order,
+    Group,
+    Prune,
+}
+
+/// A rule, by what it does.
+#[derive(Clone, Copy, Debug, PartialEq, Eq)]
+pub enum RuleName {
+    SplitAnd,
+    SelectTrue,
+    SelectBelowAssign,
+    SelectBelowProject,
+    SelectBelowUnnest,
+    SelectBelowSubplan,
+    SelectBelowOrder,
+    SelectBelowDistinct,
+    SelectBelowJoinLeft,
+    SelectBelowJoinRight,
+    SelectIntoJoin,
+    SelectBelowLeftJoin,
+    LeftJoinToJoin,
+    DropTrue,
+    JoinCondLeft,
+    JoinCondRight,
+    LeftJoinCondRight,
+    DropOrder,
+    OrderOverOrder,
+    LimitOverLimit,
+    LimitBelowProject,
+    LimitBelowAssign,
+    DistinctOverDistinct,
+    DistinctOverGroup,
+    DistinctOverAggregate,
+    AggregateOverProject,
+    GroupOverProject,
+    ResultProject,
+    ProjectOverProject,
+    ProjectAll,
+    AssignUnderProject,
+    ProjectBelowSelect,
+    ProjectBelowOrder,
+    ProjectBelowJoin,
+    GroupProjectInput,
+    AggregateProjectInput,
+}
