@@ -1,3 +1,6 @@
 pub mod Places
 pub mod Rules
 pub mod Driven
+pub mod Chains
+pub mod Pairs
+pub mod Laws

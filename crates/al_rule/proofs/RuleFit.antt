@@ -1,0 +1,87 @@
+-- What a rule needs to show that its right side fits.
+use Rattle.std.proofs.Common.{◌≡◌, ◌≢◌, ◌⊎◌, inl, inr, ℕ, Bool, true, false, cond, ◌&&◌, List, [], ◌∷◌, ◌++◌, map, filter, length, refl, ap, sym, subst, ◌∙◌, Option, Some, None}
+use Rattle.std.specs.Prelude.{if◌then◌else◌, ◌||◌, nat_eq}
+use Rattle.std.specs.Cmp.Lexicographic.{pointwise, same_text}
+use Rattle.std.specs.List.{All, AllByRecursion, Contains, flat_map, list_all}
+use Rattle.al_value.specs.declared.value.Value.TheVariants as V
+use Rattle.al_plan.specs.declared.expr.Var.{Var}
+use Rattle.al_func.specs.declared.func.Func.{Func}
+use Rattle.al_plan.specs.declared.expr.Expr.{Expr, roll-Expr, map-Expr, fold-roll-Expr}
+use Rattle.al_plan.specs.declared.expr.Expr.TheVariants as E
+use Rattle.al_plan.specs.declared.expr.Expr.TheOpen as LE
+use Rattle.al_plan.specs.declared.plan.Plan.{Plan, map-Plan, roll-Plan}
+use Rattle.al_plan.specs.declared.plan.Plan.TheVariants as P
+use Rattle.al_plan.specs.declared.plan.Plan.TheOpen as L
+use Rattle.al_plan.specs.Eval.{Bytes, Env, eval, holds}
+use Rattle.al_plan.specs.Names.{names}
+use Rattle.al_func.specs.Func.{is_true}
+use Rattle.al_plan.specs.Allows.{Sets, live, is_among, cut, beside}
+use Rattle.al_plan.specs.Refines.{makes, makes_step, Fit, NoTwice, IsOver, AreAmong, AreLive, FitsEach, Narrow}
+use Rattle.al_rule.proofs.ReadLaws.{eval-names}
+use Rattle.al_plan.proofs.Makes.{among_of}
+use Rattle.al_plan.proofs.PlanLaws.{EachLayer, each-roll, NarrowLayer, narrow-roll, makes-roll}
+use Rattle.al_plan.proofs.Within.{is_among-append}
+use Rattle.al_plan.proofs.Refine.{fit_inputs}
+
+-- what a plan that fits asks at its root
+pub record FitLayer (x : L.Plan-F Plan) : Type 0 where
+  pub each : EachLayer x false []
+  pub narrow : NarrowLayer x []
+  pub once : NoTwice (makes_step (map-Plan Plan (List Var) makes x))
+
+pub fit_out : (x : L.Plan-F Plan) (p : Plan) → roll-Plan x ≡ p → Fit p → FitLayer x
+fit_out x p e f =
+    let g : Fit (roll-Plan x) = subst Fit (sym e) f in
+    record {
+      each = subst (λ (a : Bool → List Var → Type 0). a false []) (each-roll x) g.each;
+      narrow = subst (λ (a : List Var → Type 0). a []) (narrow-roll x) g.narrow;
+      once = subst NoTwice (makes-roll x) g.once;
+    }
+
+pub fit_in : (x : L.Plan-F Plan) (p : Plan) → roll-Plan x ≡ p → FitLayer x → Fit p
+fit_in x p e f = subst Fit e (record {
+  each = subst (λ (a : Bool → List Var → Type 0). a false []) (sym (each-roll x)) f.each;
+  narrow = subst (λ (a : List Var → Type 0). a []) (sym (narrow-roll x)) f.narrow;
+  once = subst NoTwice (sym (makes-roll x)) f.once;
+})
+
+pub fit_Select : (c : Expr) (p : Plan) → Fit (P.Select c p) → Fit p
+fit_Select c p f = fit_inputs {S = Unit {0}} (λ t. p) (L.Select c tt) (subst Fit (sym (P.rolls-Select c p)) f)
+
+pub fit_Project : (vars : List Var) (p : Plan) → Fit (P.Project vars p) → Fit p
+fit_Project vars p f = fit_inputs {S = Unit {0}} (λ t. p) (L.Project vars tt) (subst Fit (sym (P.rolls-Project vars p)) f)
+
+pub fit_Join : (c : Expr) (l r : Plan) → Fit (P.Join c l r) → Fit l × Fit r
+fit_Join c l r f = fit_inputs {S = Bool} (λ t. if t then l else r) (L.Join c true false) (subst Fit (sym (P.rolls-Join c l r)) f)
+
+-- ---- variables of expressions
+
+cut_keeps : (vars : List Var) (r : Env) (qs : List Bytes) → AreAmong vars qs → AllByRecursion (λ q. cut vars r q ≡ r q) qs
+cut_keeps vars r [] h = tt
+cut_keeps vars r (q ∷ qs) h = (ap (λ b. if b then r q else V.Null) h.0, cut_keeps vars r qs h.1)
+
+pub holds-cut : (e : Expr) (vars : List Var) (r : Env) → AreAmong vars (names e) → holds e (cut vars r) ≡ holds e r
+holds-cut e vars r h = ap is_true (eval-names e (cut vars r) r (cut_keeps vars r (names e) h))
+
+beside_left : (vars : List Var) (a b : Env) (qs : List Bytes) → AreAmong vars qs → AllByRecursion (λ q. beside vars a b q ≡ a q) qs
+beside_left vars a b [] h = tt
+beside_left vars a b (q ∷ qs) h = (ap (λ t. if t then a q else b q) h.0, beside_left vars a b qs h.1)
+
+-- an expression over the first row's variables sees the first row
+pub holds-beside : (e : Expr) (vars : List Var) (a b : Env) → AreAmong vars (names e) → holds e (beside vars a b) ≡ holds e a
+holds-beside e vars a b h = ap is_true (eval-names e (beside vars a b) a (beside_left vars a b (names e) h))
+
+-- variables among some that are live are live
+pub among_among : (xs vars : List Var) → AreLive xs vars → (qs : List Bytes) → AreAmong vars qs → AreAmong xs qs
+among_among xs vars h [] g = tt
+among_among xs vars h (q ∷ qs) g = (among_of xs vars h q g.0, among_among xs vars h qs g.1)
+
+pub over_front : (xs ys : List Var) (qs : List Bytes) → AreAmong xs qs → AreAmong (xs ++ ys) qs
+over_front xs ys [] h = tt
+over_front xs ys (q ∷ qs) h = (is_among-append xs ys q ∙ ap (λ b. b || is_among ys q) h.0, over_front xs ys qs h.1)
+
+pub fit_Group : (keys : List (Var × Var)) (n p : Plan) → Fit (P.Group keys n p) → Fit p
+fit_Group keys n p f = fit_inputs {S = Bool} (λ t. if t then n else p) (L.Group keys true false) (subst Fit (sym (P.rolls-Group keys n p)) f)
+
+pub fit_LeftJoin_inputs : (c : Expr) (l r : Plan) → Fit (P.LeftJoin c l r) → Fit l × Fit r
+fit_LeftJoin_inputs c l r f = fit_inputs {S = Bool} (λ t. if t then l else r) (L.LeftJoin c true false) (subst Fit (sym (P.rolls-LeftJoin c l r)) f)
