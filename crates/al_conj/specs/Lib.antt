@@ -1,0 +1,2 @@
+pub mod Conj
+pub mod Laws
