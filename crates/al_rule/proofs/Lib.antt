@@ -10,3 +10,4 @@ pub mod FitLaws
 pub mod Passing
 pub mod SelectLaws
 pub mod JoinLaws
+pub mod LiveLaws
