@@ -2,3 +2,4 @@ pub mod LineLaws
 pub mod Spelling
 pub mod InRange
 pub mod ReadsBack
+pub mod TraceLaws

@@ -3,6 +3,7 @@
 use Rattle.std.specs.Prelude.{ℕ, Bool, true, false, ◌||◌, if◌then◌else◌, List, [], ◌∷◌, ◌++◌, map, codes}
 use Rattle.std.specs.Fmt.{signed_decimal}
 use Rattle.al_plan.specs.declared.file.PlanFile.{PlanFile}
+use Rattle.al_plan.specs.declared.plan.Plan.{Plan}
 use Rattle.al_plan.specs.Grammar.{Word, Open, Close, Name, Variable, Number, Text, Marked, file_words}
 use Rattle.al_read.specs.Tokens.{quoted}
 use Rattle.al_print.specs.declared.line.Line.{Line}
@@ -43,6 +44,10 @@ words_in ms = map (λ m. m.1) ms
 -- the text of a plan file
 abbrev pub plan_text : PlanFile → List ℕ
 plan_text f = line_of true (words_in (file_words f)) ++ codes "\n"
+
+-- the file with another plan in the place of its own
+abbrev pub file_with : PlanFile → Plan → PlanFile
+file_with f root = record { version = f.version; datasets = f.datasets; dataset_places = f.dataset_places; root = root; places = f.places }
 
 -- whether no space comes behind these words
 abbrev pub tight_behind : Bool → List Word → Bool

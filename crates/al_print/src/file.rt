@@ -4,7 +4,7 @@ ghost use Rattle.std.specs.Prelude.{◌≡◌, ◌++◌, [], ◌∷◌, OnOk, If
 ghost use Rattle.std.specs.List.{flat_map};
 ghost use Rattle.al_plan.specs.Grammar as grammar;
 ghost use Rattle.al_plan.specs.Grammar.{plan_words};
-ghost use Rattle.al_print.specs.Canonical.{after, plan_text};
+ghost use Rattle.al_print.specs.Canonical.{after, file_with, plan_text};
 
 use crate::expr::put_expr;
 use crate::line::Line;
@@ -195,23 +195,30 @@ fn put_datasets(line: &mut Line, decls: &[Decl]) -> Result<(), NoMemory>
 }
 
 #[tactic(auto, using(crate::proofs::LineLaws::line_laws))]
-fn put_file(line: &mut Line, f: &PlanFile) -> Result<(), NoMemory>
-    ensures { OnOk result (line.new ≡ after line.old (grammar.file_words f.now)) }
+fn put_file(line: &mut Line, f: &PlanFile, root: &Plan) -> Result<(), NoMemory>
+    ensures { OnOk result (line.new ≡ after line.old (grammar.file_words (file_with f.now root.now))) }
 {
     line.head("algebricks")?;
     line.count(u64::from(f.version))?;
     put_datasets(line, f.datasets.as_slice())?;
-    put_plan(line, &f.root)?;
+    put_plan(line, root)?;
     line.close()
 }
 
 /// The canonical text of a plan file, one line.
-#[tactic(auto, unfolding(crate::specs::Canonical::after))]
 pub fn print_plan(alloc: Global, f: &PlanFile) -> Result<List<u8>, NoMemory>
     ensures { IfOk result (λ text. text ≡ plan_text f.now) }
 {
+    print_with(alloc, f, &f.root)
+}
+
+/// The canonical text of a plan file with another plan in the place of its own, one line.
+#[tactic(auto, unfolding(crate::specs::Canonical::after))]
+pub fn print_with(alloc: Global, f: &PlanFile, root: &Plan) -> Result<List<u8>, NoMemory>
+    ensures { IfOk result (λ text. text ≡ plan_text (file_with f.now root.now)) }
+{
     let mut line = Line::new(alloc);
-    put_file(&mut line, f)?;
+    put_file(&mut line, f, root)?;
     let mut text = line.into_text();
     text.push(b'\n')?;
     Ok(text)

@@ -6,9 +6,11 @@ mod file;
 mod laws;
 mod line;
 mod operator;
+mod trace;
 
-pub use file::print_plan;
+pub use file::{print_plan, print_with};
 pub use laws::printing_laws;
+pub use trace::print_trace;
 
 #[cfg(test)]
 mod tests;
