@@ -2,8 +2,10 @@
 #![tactic(auto)]
 
 mod drive;
+mod find;
 mod laws;
 mod names;
+mod place;
 mod rule;
 mod trace;
 
