@@ -1,3 +1,4 @@
 pub mod Operators
 pub mod PlaceLaws
 pub mod WalkLaws
+pub mod DriveLaws

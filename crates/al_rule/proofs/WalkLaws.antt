@@ -1,5 +1,5 @@
 -- What a walk finds, and what a rewriting at its place leaves as it was.
-use Rattle.std.proofs.Common.{◌≡◌, ◌<◌, ◌≤◌, ℕ, zero, suc, List, [], ◌∷◌, length, Option, Some, None, Result, Ok, Err, IfOk, refl, ap, sym, subst, ◌∙◌, arith}
+use Rattle.std.proofs.Common.{◌≡◌, ◌<◌, ℕ, zero, suc, List, [], ◌∷◌, length, Option, Some, None, Result, Ok, Err, IfOk, refl, ap, sym, subst, ◌∙◌, arith}
 use Rattle.al_plan.specs.declared.plan.Plan.{Plan}
 use Rattle.al_rule.specs.declared.find.Found.{Found}
 use Rattle.al_rule.specs.Places.{Rewriting, input, with_input, plan_at, and_then, Applied}

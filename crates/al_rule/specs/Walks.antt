@@ -1,9 +1,12 @@
 -- How far a walk over a plan's places has come, and what a search from there finds.
-use Rattle.std.specs.Prelude.{◌≡◌, ◌<◌, ℕ, List, [], ◌∷◌, Option, Some, None}
+use Rattle.std.specs.Prelude.{◌≡◌, ◌<◌, ℕ, List, [], ◌∷◌, ◌++◌, Option, Some, None}
 use Rattle.al_plan.specs.declared.plan.Plan.{Plan}
 use Rattle.al_rule.specs.declared.find.Found.{Found}
+use Rattle.al_rule.specs.declared.trace.TraceStep.{TraceStep}
+use Rattle.al_rule.specs.declared.trace.Trace.{Trace}
 use Rattle.al_rule.specs.Places.{Rewriting, input, plan_at}
 use Rattle.al_rule.specs.Rules.{Rules, Matches, Stuck}
+use Rattle.al_rule.specs.Driven.{IsStep}
 
 -- no rule of the set matches at the root
 abbrev pub NoneHere : Rules → Plan → Type 0
@@ -37,3 +40,12 @@ Finds rules from p (Some f) = IsNext rules from p f.rule f.place.children
 abbrev pub FindsIn : Rules → ℕ → List ℕ → Plan → Option Found → Type 0
 FindsIn rules i from p None = (x : Plan) → input p i ≡ Some x → NoneBefore rules from x → Stuck rules x
 FindsIn rules i from p (Some f) = (rest : List ℕ) × (f.place.children ≡ i ∷ rest) × ((x : Plan) × (input p i ≡ Some x) × IsNext rules from x f.rule rest)
+
+-- the trace gained a step of the set: this rule at this place
+abbrev pub Records : Rules → ℕ → List ℕ → Trace → Trace → Type 0
+Records rules k place before now =
+    (s : TraceStep) × (now.steps ≡ before.steps ++ s ∷ []) × (s.set ≡ rules.set) × (s.rule ≡ rules.name_of k) × (s.place.children ≡ place)
+
+-- the plan was rewritten at this place, and the trace gained that step
+abbrev pub StepsTo : Rules → List ℕ → Plan → Trace → Plan → Trace → Type 0
+StepsTo rules place p before q now = (s : TraceStep) × (now.steps ≡ before.steps ++ s ∷ []) × (s.place.children ≡ place) × IsStep rules s p q

@@ -1,4 +1,4 @@
-use Rattle.std.proofs.Common.{◌∷◌, [], ◌≡◌, arith, subst, Option}
+use Rattle.std.proofs.Common.{◌∷◌, [], ◌≡◌, arith, subst}
 use Rattle.al_rule.specs.Walks.{Finds, FindsIn}
 use Rattle.al_rule.proofs.PlaceLaws.{input_smaller}
 use Rattle.al_rule.proofs.WalkLaws.{none_of, ok_more, root_found, past_root_from, found_here, later_from, found_none, part_found}
