@@ -81,7 +81,7 @@ walk_begins rules weight p t from is f =
 
 pub walk_goes_on : (rules : Rules) (measure : Plan → List ℕ) (weight : Plan → ℕ) → IsLawful rules measure weight → (start plan next : Plan) (before now later : Trace) (from place : List ℕ) (applied : Bool) (k : ℕ)
     → Walking rules weight start before from plan now applied → IsNext rules from plan k place → StepsTo rules place plan now next later → Walking rules weight start before place next later true
-walk_goes_on rules measure weight lawful start plan next before now later from place applied k w (low, m, further) (s, is, place_is, step) =
+walk_goes_on rules measure weight lawful start plan next before now later from place applied k w (low, m, further, first) (s, is, place_is, step) =
     let falls : weight next < weight plan = step_lightens rules measure weight lawful s plan next w.fit step in
     let bound : weight plan ≤ weight start = w.no_heavier in
     let here : Applied (rules.rewrites step.0) place plan next = subst (λ l. Applied (rules.rewrites step.0) l plan next) place_is step.4 in

@@ -27,9 +27,10 @@ abbrev pub FirstRule : Rules → Plan → Option ℕ → Type 0
 FirstRule rules p None = NoneHere rules p
 FirstRule rules p (Some k) = (k < rules.count) × Matches (rules.rewrites k) p × ((j : ℕ) → j < k → Matches (rules.rewrites j) p → ⊥)
 
--- where nothing matches before one place, this rule is the next one that matches, at the other place
+-- this rule is the first one that matches at the second place; where nothing matches before the first place, nothing does before the second
 abbrev pub IsNext : Rules → List ℕ → Plan → ℕ → List ℕ → Type 0
-IsNext rules from p k place = (k < rules.count) × MatchesAt (rules.rewrites k) place p × (NoneBefore rules from p → NoneBefore rules place p)
+IsNext rules from p k place =
+    (k < rules.count) × MatchesAt (rules.rewrites k) place p × (NoneBefore rules from p → NoneBefore rules place p) × ((j : ℕ) → j < k → MatchesAt (rules.rewrites j) place p → ⊥)
 
 -- what is found in a plan from a place on
 abbrev pub Finds : Rules → List ℕ → Plan → Option Found → Type 0
