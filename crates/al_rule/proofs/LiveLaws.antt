@@ -15,7 +15,7 @@ use Rattle.al_plan.specs.Allows.{live, is_among}
 use Rattle.al_plan.specs.Names.{names}
 use Rattle.al_plan.specs.Refines.{AreAmong}
 use Rattle.al_rule.specs.Rules.{Decides}
-use Rattle.al_rule.specs.Reads.{ReadsNone, is_apart}
+use Rattle.al_rule.specs.Reads.{ReadsNone}
 use Rattle.al_plan.proofs.PlanLaws.{live-Scan, live-Empty, live-Nested, live-Assign, live-Select, live-Project, live-Unnest, live-Subplan, live-Join, live-LeftJoin, live-Group, live-Distinct, live-Union, live-Aggregate, live-Order, live-Limit, live-Check, live-Result}
 use Rattle.al_plan.proofs.Within.{is_among-append}
 use Rattle.al_plan.proofs.UsesLaws.{names-Var, names-Lit, names-Call}
@@ -103,8 +103,8 @@ decides_not false = refl
 pub decides_among : (vars : List Var) (e : Expr) (b : Bool) → b ≡ list_all (is_among vars) (names e) → Decides b (AreAmong vars (names e))
 decides_among vars e b h = subst (λ (t : Bool). Decides t (AreAmong vars (names e))) (sym h) (decides_all (is_among vars) (λ q. is_among vars q ≡ true) (λ q. decides_true (is_among vars q)) (names e))
 
-pub decides_apart : (vars : List Var) (e : Expr) (b : Bool) → b ≡ list_all (is_apart vars) (names e) → Decides b (ReadsNone vars e)
-decides_apart vars e b h = subst (λ (t : Bool). Decides t (ReadsNone vars e)) (sym h) (decides_all (is_apart vars) (λ q. is_among vars q ≡ false) (λ q. decides_not (is_among vars q)) (names e))
+pub decides_apart : (vars : List Var) (e : Expr) (b : Bool) → b ≡ list_all (λ q. not (is_among vars q)) (names e) → Decides b (ReadsNone vars e)
+decides_apart vars e b h = subst (λ (t : Bool). Decides t (ReadsNone vars e)) (sym h) (decides_all (λ q. not (is_among vars q)) (λ q. is_among vars q ≡ false) (λ q. decides_not (is_among vars q)) (names e))
 
 and_false : (b : Bool) → (b && false) ≡ false
 and_false true = refl

@@ -1,6 +1,6 @@
 //! Which variables expressions read and plans have, told without memory.
 
-ghost use Rattle.std.specs.Prelude.{◌≡◌, [], Bool, List, map};
+ghost use Rattle.std.specs.Prelude.{◌≡◌, [], ◌∷◌, Bool, not, List, map};
 ghost use Rattle.std.specs.List.{flat_map, list_all};
 ghost use Rattle.al_plan.specs.declared.expr.Var.{Var};
 ghost use Rattle.al_plan.specs.Eval.{Bytes};
@@ -8,7 +8,7 @@ ghost use Rattle.al_plan.specs.Names.{names};
 ghost use Rattle.al_plan.specs.Allows.{is_among, live};
 ghost use Rattle.al_plan.specs.Refines.{AreAmong};
 ghost use Rattle.al_rule.specs.Rules.{Decides};
-ghost use Rattle.al_rule.specs.Reads.{ReadsNone, is_apart};
+ghost use Rattle.al_rule.specs.Reads.{ReadsNone};
 
 use al_plan::{Expr, Plan, Var};
 
@@ -105,17 +105,59 @@ impl<'a> Named for LiveIn<'a> {
     }
 }
 
-/// Those that are none of a list.
+/// Those of a list.
 #[derive(Drop)]
-struct Apart<'a> {
+struct In<'a> {
     vars: &'a [Var],
 }
 
-impl<'a> Named for Apart<'a> {
-    ghost holds_of = { λ self. is_apart self.vars.now };
+impl<'a> Named for In<'a> {
+    ghost holds_of = { λ self. is_among self.vars.now };
 
     fn holds_of(&self, v: &Var) -> bool {
-        !is_in(self.vars, v)
+        is_in(self.vars, v)
+    }
+}
+
+/// Those that are made by a list of pairs.
+#[derive(Drop)]
+struct Made<'a, T> {
+    made: &'a [(Var, T)],
+}
+
+impl<'a, T> Named for Made<'a, T> {
+    ghost holds_of = { λ self. is_among (map (λ m. m.0) self.made.now) };
+
+    fn holds_of(&self, v: &Var) -> bool {
+        is_made(self.made, v)
+    }
+}
+
+/// One variable.
+#[derive(Drop)]
+struct Same<'a> {
+    var: &'a Var,
+}
+
+impl<'a> Named for Same<'a> {
+    ghost holds_of = { λ self. is_among (self.var.now ∷ []) };
+
+    fn holds_of(&self, v: &Var) -> bool {
+        self.var.name == v.name
+    }
+}
+
+/// Those that don't have a property.
+#[derive(Drop)]
+struct Not<N: Drop> {
+    property: N,
+}
+
+impl<N: Named + Drop> Named for Not<N> {
+    ghost holds_of = { λ self q. not (N.holds_of self.property q) };
+
+    fn holds_of(&self, v: &Var) -> bool {
+        !self.property.holds_of(v)
     }
 }
 
@@ -155,8 +197,52 @@ pub fn reads_live(e: &Expr, p: &Plan) -> bool
 
 /// Whether an expression reads none of some variables.
 #[tactic(auto, using(crate::proofs::LiveLaws::decides_apart))]
-pub fn reads_none(e: &Expr, vars: &[Var]) -> bool
+pub fn avoids(e: &Expr, vars: &[Var]) -> bool
     ensures { Decides result (ReadsNone vars.now e.now) }
 {
-    all_have(&Apart { vars }, e)
+    all_have(
+        &Not {
+            property: In { vars },
+        },
+        e,
+    )
+}
+
+/// Whether an expression doesn't read a variable.
+#[tactic(auto, using(crate::proofs::LiveLaws::decides_apart))]
+pub fn avoids_var(e: &Expr, var: &Var) -> bool
+    ensures { Decides result (ReadsNone (var.now ∷ []) e.now) }
+{
+    all_have(
+        &Not {
+            property: Same { var },
+        },
+        e,
+    )
+}
+
+/// Whether an expression reads none of the variables that are made.
+#[tactic(auto, using(crate::proofs::LiveLaws::decides_apart))]
+pub fn avoids_made<T>(e: &Expr, made: &[(Var, T)]) -> bool
+    ensures { Decides result (ReadsNone (map (λ m. m.0) made.now) e.now) }
+{
+    all_have(
+        &Not {
+            property: Made { made },
+        },
+        e,
+    )
+}
+
+/// Whether an expression reads no live variable of a plan.
+#[tactic(auto, using(crate::proofs::LiveLaws::decides_apart))]
+pub fn avoids_live(e: &Expr, p: &Plan) -> bool
+    ensures { Decides result (ReadsNone (live p.now []) e.now) }
+{
+    all_have(
+        &Not {
+            property: LiveIn { plan: p },
+        },
+        e,
+    )
 }

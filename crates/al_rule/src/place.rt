@@ -207,7 +207,7 @@ fn take_input(alloc: Global, p: Plan, i: u32) -> Result<(Plan, Plan), NoMemory>
 }
 
 /// The plan with a new plan as the input that is child `i`.
-fn put_input(alloc: Global, p: Plan, i: u32, new: Plan) -> Result<Plan, NoMemory>
+pub fn put_input(alloc: Global, p: Plan, i: u32, new: Plan) -> Result<Plan, NoMemory>
     ensures { IfOk result (λ q. (x : Plan) → input p i ≡ Some x → q ≡ with_input p i new) }
 {
     let new = Boxed::new(alloc, new)?;
