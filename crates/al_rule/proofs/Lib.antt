@@ -15,3 +15,5 @@ pub mod Operators
 pub mod PlaceLaws
 pub mod WalkLaws
 pub mod SelectRules
+pub mod CountLaws
+pub mod EntryLaws
