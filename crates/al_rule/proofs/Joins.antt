@@ -33,7 +33,7 @@ matches_left xs d e c a false same [] h = refl
 matches_left xs d e c a true same (b ∷ rs) h = λ i. cond ((h.0 ∙ ap (λ t. t && holds c (beside xs a b)) same) i) (beside xs a b ∷ matches_left xs d e c a true same rs h.1 i) (matches_left xs d e c a true same rs h.1 i)
 matches_left xs d e c a false same (b ∷ rs) h = ap (λ t. cond t (beside xs a b ∷ matches xs d rs a) (matches xs d rs a)) (h.0 ∙ ap (λ t. t && holds c (beside xs a b)) same) ∙ matches_left xs d e c a false same rs h.1
 
-flat_cond : {X Y : Type 0} (f : X → List Y) (t : Bool) (x : X) (xs : List X) → flat_map f (cond t (x ∷ xs) xs) ≡ cond t (f x) [] ++ flat_map f xs
+pub flat_cond : {X Y : Type 0} (f : X → List Y) (t : Bool) (x : X) (xs : List X) → flat_map f (cond t (x ∷ xs) xs) ≡ cond t (f x) [] ++ flat_map f xs
 flat_cond f true x xs = refl
 flat_cond f false x xs = refl
 
@@ -110,7 +110,7 @@ filter-both d c e h (r ∷ rows) = go (holds c r) (holds d r) (h r) ∙ ap (λ z
     go true u h = ap (λ t. cond t (r ∷ filter (holds e) (filter (holds c) rows)) (filter (holds e) (filter (holds c) rows))) (sym h)
     go false u h = ap (λ t. cond t (r ∷ filter (holds e) (filter (holds c) rows)) (filter (holds e) (filter (holds c) rows))) (sym h)
 
-filter-flat : {X Y : Type 0} (p : Y → Bool) (f : X → List Y) (xs : List X) → filter p (flat_map f xs) ≡ flat_map (λ x. filter p (f x)) xs
+pub filter-flat : {X Y : Type 0} (p : Y → Bool) (f : X → List Y) (xs : List X) → filter p (flat_map f xs) ≡ flat_map (λ x. filter p (f x)) xs
 filter-flat p f [] = refl
 filter-flat p f (x ∷ xs) = filter-append p (f x) (flat_map f xs) ∙ ap (λ zs. filter p (f x) ++ zs) (filter-flat p f xs)
 

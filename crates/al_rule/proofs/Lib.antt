@@ -15,3 +15,6 @@ pub mod Operators
 pub mod PlaceLaws
 pub mod WalkLaws
 pub mod DriveLaws
+pub mod SelectRules
+pub mod CountLaws
+pub mod EntryLaws

@@ -25,15 +25,21 @@ pub record Operator (over : Plan → Plan) : Type 1 where
 abbrev pub AllowsMore : Plan → Plan → Type 0
 AllowsMore q p = (passing : Bool) (sets : Sets) (rows : List Env) → Allows q passing sets [] [] rows → Allows p passing sets [] [] rows
 
+-- the operator with the select below it fits, and is alike
+pub lowered_fits : (over : Plan → Plan) → Operator over → (e : Expr) (p : Plan) → Fit (P.Select e (over p)) → IsOver (live p []) e → Fit (over (P.Select e p))
+lowered_fits over o e p fit reads =
+    let top = out_Select e (over p) fit in
+    let selected = in_Select e p (record { input = o.input p top.input; root = o.input_root p top.input; over = reads }) in
+    o.kept (P.Select e p) p top.input selected (result-Select e p) (live-Select e p []) (makes-Select e p)
+
+pub lowered_alike : (over : Plan → Plan) → Operator over → (e : Expr) (p : Plan) → Fit (P.Select e (over p)) → Alike (over (P.Select e p)) (P.Select e (over p))
+lowered_alike over o e p fit =
+    let root = o.input_root p (out_Select e (over p) fit).input in
+    alike-trans (over (P.Select e p)) (over p) (P.Select e (over p)) (o.alike (P.Select e p) p (alike_select e p root)) (alike-sym (P.Select e (over p)) (over p) (alike_select e (over p) (o.root p)))
+
 pub select_goes_below : (over : Plan → Plan) → Operator over → (e : Expr) (p : Plan) → Fit (P.Select e (over p)) → IsOver (live p []) e → AllowsMore (over (P.Select e p)) (P.Select e (over p)) → Replaces (over (P.Select e p)) (P.Select e (over p))
 select_goes_below over o e p fit reads more =
-    let top = out_Select e (over p) fit in
-    let root = o.input_root p top.input in
-    let selected = in_Select e p (record { input = o.input p top.input; root = root; over = reads }) in
-    let whole = o.kept (P.Select e p) p top.input selected (result-Select e p) (live-Select e p []) (makes-Select e p) in
-    let below = o.alike (P.Select e p) p (alike_select e p root) in
-    let above = alike-sym (P.Select e (over p)) (over p) (alike_select e (over p) (o.root p)) in
-    alike_replaces (over (P.Select e p)) (P.Select e (over p)) fit whole (alike-trans (over (P.Select e p)) (over p) (P.Select e (over p)) below above) (λ b sets rows fills h. more b sets rows h)
+    alike_replaces (over (P.Select e p)) (P.Select e (over p)) fit (lowered_fits over o e p fit reads) (lowered_alike over o e p fit) (λ b sets rows fills h. more b sets rows h)
 
 pub select_comes_up : (over : Plan → Plan) → Operator over → (e : Expr) (p : Plan) → Fit (over (P.Select e p)) → IsOver (live (over p) []) e → AllowsMore (P.Select e (over p)) (over (P.Select e p)) → Replaces (P.Select e (over p)) (over (P.Select e p))
 select_comes_up over o e p fit reads more =

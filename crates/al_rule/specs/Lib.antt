@@ -6,3 +6,5 @@ pub mod Pairs
 pub mod Laws
 pub mod Reads
 pub mod Walks
+pub mod Counts
+pub mod Entries
