@@ -1,3 +1,4 @@
 pub mod Canonical
 pub mod Laws
 pub mod Traces
+pub mod Explanation

@@ -10,7 +10,7 @@ mod trace;
 
 pub use file::{print_plan, print_with};
 pub use laws::printing_laws;
-pub use trace::print_trace;
+pub use trace::{print_explanation, print_trace};
 
 #[cfg(test)]
 mod tests;

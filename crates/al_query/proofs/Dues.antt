@@ -83,7 +83,7 @@ one_refusal single file r s (unaccepted a there f reads bad) (unaccepted b here 
 
 text_served : (c : Command) (fs : Files) (text : Bytes) → IsText c fs text → is_served c ≡ true
 text_served (C.Check plan) fs text h = refl
-text_served (C.Explain plan partitions) fs text h = absurd h
+text_served (C.Explain plan partitions) fs text h = refl
 text_served (C.Plain plan) fs text h = refl
 text_served (C.Step plan settings schedule) fs text h = refl
 text_served (C.Run plan settings workers) fs text h = absurd h
@@ -93,7 +93,7 @@ text_served (C.Frames plan dataset frame_size) fs text h = absurd h
 
 plan_served : (c : Command) (plan : Bytes) → plan_of c ≡ Some plan → is_served c ≡ true
 plan_served (C.Check name) plan h = refl
-plan_served (C.Explain name partitions) plan h = cc
+plan_served (C.Explain name partitions) plan h = refl
 plan_served (C.Plain name) plan h = refl
 plan_served (C.Step name settings schedule) plan h = refl
 plan_served (C.Run name settings workers) plan h = cc
@@ -103,7 +103,7 @@ plan_served (C.Frames name dataset frame_size) plan h = cc
 
 query_plan : (c : Command) (plan : Bytes) → query_of c ≡ Some plan → plan_of c ≡ Some plan
 query_plan (C.Check name) plan h = cc
-query_plan (C.Explain name partitions) plan h = h
+query_plan (C.Explain name partitions) plan h = cc
 query_plan (C.Plain name) plan h = h
 query_plan (C.Step name settings schedule) plan h = h
 query_plan (C.Run name settings workers) plan h = h
@@ -113,7 +113,7 @@ query_plan (C.Frames name dataset frame_size) plan h = h
 
 good_served : (c : Command) (fs : Files) → IsGood c fs → is_served c ≡ true
 good_served (C.Check plan) fs h = refl
-good_served (C.Explain plan partitions) fs h = absurd h
+good_served (C.Explain plan partitions) fs h = refl
 good_served (C.Plain plan) fs h = refl
 good_served (C.Step plan settings schedule) fs h = refl
 good_served (C.Run plan settings workers) fs h = absurd h
@@ -132,7 +132,7 @@ at_name P own plan e h = subst P (some_same (Some own) own plan refl e) h
 
 text_plan : (c : Command) (fs : Files) (text plan : Bytes) → IsText c fs text → plan_of c ≡ Some plan → HasPlan fs plan
 text_plan (C.Check name) fs text plan (f, is, e) k = at_name (HasPlan fs) name plan k (f, is)
-text_plan (C.Explain name partitions) fs text plan h k = absurd h
+text_plan (C.Explain name partitions) fs text plan h k = at_name (HasPlan fs) name plan k (h.file, h.plan)
 text_plan (C.Plain name) fs text plan h k = at_name (HasPlan fs) name plan k (served_plan fs name text h)
 text_plan (C.Step name settings schedule) fs text plan h k = at_name (HasPlan fs) name plan k (served_plan fs name text h)
 text_plan (C.Run name settings workers) fs text plan h k = absurd h
@@ -142,7 +142,7 @@ text_plan (C.Frames name dataset frame_size) fs text plan h k = absurd h
 
 text_query : (c : Command) (fs : Files) (text plan : Bytes) → IsText c fs text → query_of c ≡ Some plan → IsServed fs plan text
 text_query (C.Check name) fs text plan h k = cc
-text_query (C.Explain name partitions) fs text plan h k = absurd h
+text_query (C.Explain name partitions) fs text plan h k = cc
 text_query (C.Plain name) fs text plan h k = at_name (λ n. IsServed fs n text) name plan k h
 text_query (C.Step name settings schedule) fs text plan h k = at_name (λ n. IsServed fs n text) name plan k h
 text_query (C.Run name settings workers) fs text plan h k = absurd h
@@ -155,7 +155,7 @@ sound_plan fs name (f, sets, is, good, none) = (f, is)
 
 good_plan : (c : Command) (fs : Files) (plan : Bytes) → IsGood c fs → plan_of c ≡ Some plan → HasPlan fs plan
 good_plan (C.Check name) fs plan h k = at_name (HasPlan fs) name plan k h
-good_plan (C.Explain name partitions) fs plan h k = absurd h
+good_plan (C.Explain name partitions) fs plan h k = at_name (HasPlan fs) name plan k h
 good_plan (C.Plain name) fs plan h k = at_name (HasPlan fs) name plan k (sound_plan fs name h)
 good_plan (C.Step name settings schedule) fs plan h k = at_name (HasPlan fs) name plan k (sound_plan fs name h)
 good_plan (C.Run name settings workers) fs plan h k = absurd h
@@ -165,7 +165,7 @@ good_plan (C.Frames name dataset frame_size) fs plan h k = absurd h
 
 good_query : (c : Command) (fs : Files) (plan : Bytes) → IsGood c fs → query_of c ≡ Some plan → IsSound fs plan
 good_query (C.Check name) fs plan h k = cc
-good_query (C.Explain name partitions) fs plan h k = absurd h
+good_query (C.Explain name partitions) fs plan h k = cc
 good_query (C.Plain name) fs plan h k = at_name (IsSound fs) name plan k h
 good_query (C.Step name settings schedule) fs plan h k = at_name (IsSound fs) name plan k h
 good_query (C.Run name settings workers) fs plan h k = absurd h

@@ -32,8 +32,8 @@ use Rattle.al_query.specs.declared.status.DataRefused.{DataRefused}
 use Rattle.al_query.specs.declared.status.Status.{Status}
 use Rattle.al_query.specs.declared.status.Status.TheVariants as St
 use Rattle.al_query.specs.declared.data.Loaded.{Loaded}
-use Rattle.al_query.specs.Served.{IsPlan, IsPlanRefused, absent, unread, unaccepted, file_rows, of_file, room_behind, size_of, loaded, IsServed, IsText, is_served, plan_of, query_of, IsAsked, IsDue}
-use Rattle.al_query.specs.Tells.{IsStop, TellsPlan, TellsRead, TellsAccepted, TellsSet, TellsBytes, TellsData, TellsEvaluated, Refuses, TellsAnswer, TellsPrinted, TellsText, is_idle, is_usage, unread_status}
+use Rattle.al_query.specs.Served.{IsPlan, IsPlanRefused, absent, unread, unaccepted, file_rows, of_file, room_behind, size_of, loaded, IsServed, IsPrinted, IsExplained, IsText, is_served, plan_of, query_of, IsAsked, IsDue}
+use Rattle.al_query.specs.Tells.{IsStop, TellsPlan, TellsRead, TellsAccepted, TellsSet, TellsBytes, TellsData, TellsEvaluated, Refuses, TellsAnswer, TellsPrinted, TellsExplained, TellsMade, Explains, TellsText, is_idle, is_usage, unread_status}
 use Rattle.al_query.specs.Answer.{IsAnswer}
 use Rattle.al_query.proofs.Dues.{told_map, told_both}
 
@@ -200,18 +200,24 @@ told_print_stopped files name status h = told_map files (λ fs. TellsPlan (fs na
 pub told_printed : (files : Option Files) (name text : Bytes) (f g : PlanFile) → f ≡ g → Told files (λ fs. TellsPlan (fs name) (Ok f)) → text ≡ plan_text g → Told files (λ fs. TellsPrinted fs name (Ok text))
 told_printed files name text f g is h e = told_map files (λ fs. TellsPlan (fs name) (Ok f)) (λ fs. TellsPrinted fs name (Ok text)) h (λ fs plan. (g, subst (IsPlan (fs name)) is plan, e))
 
+pub told_explanation : (files : Option Files) (name text : Bytes) (f g : PlanFile) → f ≡ g → Told files (λ fs. TellsPlan (fs name) (Ok f)) → Explains g text → Told files (λ fs. TellsExplained fs name (Ok text))
+told_explanation files name text f g is h (steps, q, legal, refines, parts) =
+    told_map files (λ fs. TellsPlan (fs name) (Ok f)) (λ fs. TellsExplained fs name (Ok text)) h
+    (λ fs plan. record { file = g; plan = subst (IsPlan (fs name)) is plan; steps = steps; optimised = q; legal = legal; refines = refines; parts = parts })
+
 -- ---- commands
 
-checked : (plan : Bytes) (fs : Files) (r : Result Bytes Status) → TellsPrinted fs plan r → TellsText (C.Check plan) fs r
-checked plan fs (Ok text) h = h
-checked plan fs (Err (St.PlanRefused r)) h = (plan, refl, h)
-checked plan fs (Err St.SourceFault) h = tt
-checked plan fs (Err St.NoMemory) h = tt
-checked plan fs (Err St.Done) h = absurd h
-checked plan fs (Err St.Usage) h = absurd h
-checked plan fs (Err (St.DataRefused d)) h = absurd h
-checked plan fs (Err (St.CheckFailed own)) h = absurd h
-checked plan fs (Err St.SinkFault) h = absurd h
+-- a text that is made from a plan file alone is what a command asks for
+made : (c : Command) (plan : Bytes) (fs : Files) (IsSuch : Bytes → Type 0) (r : Result Bytes Status) → plan_of c ≡ Some plan → ((text : Bytes) → IsSuch text → IsText c fs text) → TellsMade IsSuch (fs plan) r → TellsText c fs r
+made c plan fs IsSuch (Ok text) of such h = such text h
+made c plan fs IsSuch (Err (St.PlanRefused r)) of such h = (plan, of, h)
+made c plan fs IsSuch (Err St.SourceFault) of such h = tt
+made c plan fs IsSuch (Err St.NoMemory) of such h = tt
+made c plan fs IsSuch (Err St.Done) of such h = absurd h
+made c plan fs IsSuch (Err St.Usage) of such h = absurd h
+made c plan fs IsSuch (Err (St.DataRefused d)) of such h = absurd h
+made c plan fs IsSuch (Err (St.CheckFailed own)) of such h = absurd h
+made c plan fs IsSuch (Err St.SinkFault) of such h = absurd h
 
 queried : (c : Command) (plan : Bytes) (fs : Files) (r : Result Bytes Status) → query_of c ≡ Some plan → plan_of c ≡ Some plan → ((text : Bytes) → IsServed fs plan text → IsText c fs text) → TellsAnswer fs plan r → TellsText c fs r
 queried c plan fs (Ok text) q p served h = served text h
@@ -226,7 +232,12 @@ queried c plan fs (Err St.SinkFault) q p served h = absurd h
 
 pub told_checked : (files : Option Files) (c : Command) (plan name : Bytes) (r : Result Bytes Status) → c ≡ C.Check plan → name ≡ plan → Told files (λ fs. TellsPrinted fs name r) → Told files (λ fs. TellsText c fs r)
 told_checked files c plan name r is same h =
-    told_map files (λ fs. TellsPrinted fs name r) (λ fs. TellsText c fs r) h (λ fs k. subst (λ (x : Command). TellsText x fs r) (sym is) (checked plan fs r (subst (λ (n : Bytes). TellsPrinted fs n r) same k)))
+    told_map files (λ fs. TellsPrinted fs name r) (λ fs. TellsText c fs r) h (λ fs k. subst (λ (x : Command). TellsText x fs r) (sym is) (made (C.Check plan) plan fs (IsPrinted fs plan) r refl (λ text h. h) (subst (λ (n : Bytes). TellsPrinted fs n r) same k)))
+
+pub told_explained : (files : Option Files) (c : Command) (plan name : Bytes) (partitions : ℕ) (r : Result Bytes Status) → c ≡ C.Explain plan partitions → name ≡ plan → Told files (λ fs. TellsExplained fs name r) → Told files (λ fs. TellsText c fs r)
+told_explained files c plan name partitions r is same h =
+    told_map files (λ fs. TellsExplained fs name r) (λ fs. TellsText c fs r) h
+    (λ fs k. subst (λ (x : Command). TellsText x fs r) (sym is) (made (C.Explain plan partitions) plan fs (IsExplained fs plan) r refl (λ text h. h) (subst (λ (n : Bytes). TellsExplained fs n r) same k)))
 
 pub told_plain : (files : Option Files) (c : Command) (plan name : Bytes) (r : Result Bytes Status) → c ≡ C.Plain plan → name ≡ plan → Told files (λ fs. TellsAnswer fs name r) → Told files (λ fs. TellsText c fs r)
 told_plain files c plan name r is same h =
@@ -282,7 +293,7 @@ usage_of words c status one is h e d also = subst (λ (x : Command). is_served x
 
 idle_unserved : (c : Command) → is_served c ≡ false → is_idle c ≡ true
 idle_unserved (C.Check plan) h = cc
-idle_unserved (C.Explain plan partitions) h = refl
+idle_unserved (C.Explain plan partitions) h = cc
 idle_unserved (C.Plain plan) h = cc
 idle_unserved (C.Step plan settings schedule) h = cc
 idle_unserved (C.Run plan settings workers) h = refl

@@ -14,12 +14,17 @@ use Rattle.al_words.specs.Words.{IsCommand}
 use Rattle.al_plan.specs.declared.file.PlanFile.{PlanFile}
 use Rattle.al_plan.specs.declared.file.Refused.{Refused}
 use Rattle.al_plan.specs.declared.file.RefusedKind.TheVariants as refused
+use Rattle.al_plan.specs.declared.plan.Plan.{Plan}
 use Rattle.al_plan.specs.Allows.{Faults}
+use Rattle.al_plan.specs.Refines.{Refines}
 use Rattle.al_plan.specs.Accept.{IsAccepted, accept_refusal}
 use Rattle.al_read.specs.Reads.{Reads, IsReadRefusal, refusal}
 use Rattle.al_plain.specs.declared.plan.Data.{Data}
 use Rattle.al_plain.specs.Gives.{sets_of}
-use Rattle.al_print.specs.Canonical.{plan_text}
+use Rattle.al_print.specs.Canonical.{file_with, plan_text}
+use Rattle.al_print.specs.Explanation.{explanation}
+use Rattle.al_rule.specs.declared.trace.TraceStep.{TraceStep}
+use Rattle.al_opt.specs.Optimised.{LegalTrace}
 use Rattle.al_query.specs.declared.status.DataRefused.{DataRefused}
 use Rattle.al_query.specs.declared.status.Status.{Status}
 use Rattle.al_query.specs.declared.status.Status.TheVariants as St
@@ -81,10 +86,20 @@ pub record IsServed (files : Files) (name text : Bytes) : Type 0 where
 abbrev pub IsPrinted : Files → Bytes → Bytes → Type 0
 IsPrinted files name text = (f : PlanFile) × IsPlan (files name) f × (text ≡ plan_text f)
 
+-- these bytes are a trace of legal steps and the plan that it leads to, which may stand for the plan of the file
+pub record IsExplained (files : Files) (name text : Bytes) : Type 0 where
+  pub file : PlanFile
+  pub plan : IsPlan (files name) file
+  pub steps : List TraceStep
+  pub optimised : Plan
+  pub legal : LegalTrace file.root steps optimised
+  pub refines : Refines optimised file.root
+  pub parts : text ≡ explanation steps (file_with file optimised)
+
 -- the bytes that a command writes; the others are not served yet
 abbrev pub IsText : Command → Files → Bytes → Type 0
 IsText (C.Check plan) files text = IsPrinted files plan text
-IsText (C.Explain plan partitions) files text = ⊥
+IsText (C.Explain plan partitions) files text = IsExplained files plan text
 IsText (C.Plain plan) files text = IsServed files plan text
 IsText (C.Step plan settings schedule) files text = IsServed files plan text
 IsText (C.Run plan settings workers) files text = ⊥
@@ -94,7 +109,7 @@ IsText (C.Frames plan dataset frame_size) files text = ⊥
 
 abbrev pub is_served : Command → Bool
 is_served (C.Check plan) = true
-is_served (C.Explain plan partitions) = false
+is_served (C.Explain plan partitions) = true
 is_served (C.Plain plan) = true
 is_served (C.Step plan settings schedule) = true
 is_served (C.Run plan settings workers) = false
@@ -105,6 +120,7 @@ is_served (C.Frames plan dataset frame_size) = false
 -- the plan file of a command that is served
 abbrev pub plan_of : Command → Option Bytes
 plan_of (C.Check plan) = Some plan
+plan_of (C.Explain plan partitions) = Some plan
 plan_of (C.Plain plan) = Some plan
 plan_of (C.Step plan settings schedule) = Some plan
 plan_of _ = None
@@ -155,7 +171,7 @@ IsDue words files St.NoMemory = Unit {0}
 -- a command that is served, with good files
 abbrev pub IsGood : Command → Files → Type 0
 IsGood (C.Check plan) files = (f : PlanFile) × IsPlan (files plan) f
-IsGood (C.Explain plan partitions) files = ⊥
+IsGood (C.Explain plan partitions) files = (f : PlanFile) × IsPlan (files plan) f
 IsGood (C.Plain plan) files = IsSound files plan
 IsGood (C.Step plan settings schedule) files = IsSound files plan
 IsGood (C.Run plan settings workers) files = ⊥

@@ -11,7 +11,13 @@ use Rattle.al_words.specs.declared.command.Command.TheVariants as C
 use Rattle.al_plan.specs.declared.file.PlanFile.{PlanFile}
 use Rattle.al_read.specs.declared.plan.ReadRefused.{ReadRefused}
 use Rattle.al_read.specs.declared.plan.ReadRefused.TheVariants as A
+use Rattle.al_plan.specs.declared.plan.Plan.{Plan}
 use Rattle.al_plan.specs.Allows.{Faults}
+use Rattle.al_plan.specs.Refines.{Refines}
+use Rattle.al_print.specs.Canonical.{file_with}
+use Rattle.al_print.specs.Explanation.{explanation}
+use Rattle.al_rule.specs.declared.trace.TraceStep.{TraceStep}
+use Rattle.al_opt.specs.Optimised.{LegalTrace}
 use Rattle.al_plan.specs.Accept.{accept_refusal}
 use Rattle.al_read.specs.Reads.{Reads, IsReadRefusal}
 use Rattle.al_plain.specs.declared.plan.Data.{Data}
@@ -21,7 +27,7 @@ use Rattle.al_query.specs.declared.status.Status.TheVariants as St
 use Rattle.al_query.specs.declared.status.DataRefused.{DataRefused}
 use Rattle.al_query.specs.declared.data.Loaded.{Loaded}
 use Rattle.al_query.specs.Answer.{IsAnswer}
-use Rattle.al_query.specs.Served.{IsPlan, IsPlanRefused, file_rows, size_of, loaded, IsServed, IsPrinted, IsBadData, IsFaulty, IsText, IsAsked}
+use Rattle.al_query.specs.Served.{IsPlan, IsPlanRefused, file_rows, size_of, loaded, IsServed, IsPrinted, IsExplained, IsBadData, IsFaulty, IsText, IsAsked}
 
 -- a status that reading and computing may end with; `Usage` comes only for a command that isn't served
 abbrev pub IsStop : Status → Type 0
@@ -124,13 +130,25 @@ TellsAnswer files name (Err St.SourceFault) = Unit {0}
 TellsAnswer files name (Err St.NoMemory) = Unit {0}
 TellsAnswer files name (Err _) = ⊥
 
+-- what making such a text from a plan file alone gave
+abbrev pub TellsMade : (Bytes → Type 0) → Option Bytes → Result Bytes Status → Type 0
+TellsMade IsSuch file (Ok text) = IsSuch text
+TellsMade IsSuch file (Err (St.PlanRefused r)) = IsPlanRefused file r
+TellsMade IsSuch file (Err St.SourceFault) = Unit {0}
+TellsMade IsSuch file (Err St.NoMemory) = Unit {0}
+TellsMade IsSuch file (Err _) = ⊥
+
 -- what printing a plan file gave
 abbrev pub TellsPrinted : Files → Bytes → Result Bytes Status → Type 0
-TellsPrinted files name (Ok text) = IsPrinted files name text
-TellsPrinted files name (Err (St.PlanRefused r)) = IsPlanRefused (files name) r
-TellsPrinted files name (Err St.SourceFault) = Unit {0}
-TellsPrinted files name (Err St.NoMemory) = Unit {0}
-TellsPrinted files name (Err _) = ⊥
+TellsPrinted files name = TellsMade (IsPrinted files name) (files name)
+
+-- what explaining the plan of a file gave
+abbrev pub TellsExplained : Files → Bytes → Result Bytes Status → Type 0
+TellsExplained files name = TellsMade (IsExplained files name) (files name)
+
+-- this text explains the plan of the file
+abbrev pub Explains : PlanFile → Bytes → Type 0
+Explains f text = (steps : List TraceStep) × (q : Plan) × LegalTrace f.root steps q × Refines q f.root × (text ≡ explanation steps (file_with f q))
 
 -- what making the text of a command gave
 abbrev pub TellsText : Command → Files → Result Bytes Status → Type 0
@@ -140,6 +158,7 @@ TellsText c files (Err s) = IsAsked c files s
 -- a command that reads no file
 abbrev pub is_idle : Command → Bool
 is_idle (C.Check plan) = false
+is_idle (C.Explain plan partitions) = false
 is_idle (C.Plain plan) = false
 is_idle (C.Step plan settings schedule) = false
 is_idle _ = true

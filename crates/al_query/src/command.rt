@@ -11,6 +11,7 @@ ghost use Rattle.al_query.specs.Served.{IsDue, IsDueOrCut, IsGood, IsText, is_se
 ghost use Rattle.al_query.specs.Tells.{IsNoEnd, IsStop, TellsPrinted, TellsText, is_idle, is_source_fault, is_usage};
 
 use crate::answer::answer;
+use crate::explain::explained;
 use crate::plan::read_accepted;
 use crate::status::Status;
 use al_csv::generate;
@@ -113,13 +114,13 @@ fn command_text<S: Source>(
 {
     match command {
         Command::Check { plan } => printed(alloc, plan.as_str(), source),
+        Command::Explain { plan, .. } => explained(alloc, plan.as_str(), source),
         Command::Plain { plan } => answer(alloc, plan.as_str(), source),
         Command::Step { plan, .. } => answer(alloc, plan.as_str(), source),
         Command::Gen { seed, rows } => match generate(alloc, *seed, *rows) {
             Ok(text) => Ok(text),
             Err(NoMemory) => Err(Status::NoMemory),
         },
-        Command::Explain { .. } => Err(Status::Usage),
         Command::Run { .. } => Err(Status::Usage),
         Command::Drill { .. } => Err(Status::Usage),
         Command::Frames { .. } => Err(Status::Usage),

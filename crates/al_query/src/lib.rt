@@ -4,6 +4,7 @@
 mod answer;
 mod command;
 mod data;
+mod explain;
 mod plan;
 mod status;
 
