@@ -1,5 +1,5 @@
 -- An operator around one of its inputs: what holds of the input and of the whole plan.
-use Rattle.std.proofs.Common.{◌≡◌, ◌<◌, ℕ, zero, suc, Bool, true, false, List, [], ◌∷◌, Some, None, refl, ap, sym, subst, ◌∙◌, arith}
+use Rattle.std.proofs.Common.{◌≡◌, ◌<◌, ℕ, zero, suc, Bool, true, false, List, [], ◌∷◌, Option, Some, None, refl, ap, sym, subst, ◌∙◌, arith}
 use Rattle.std.specs.Prelude.{if◌then◌else◌}
 use Rattle.al_plan.specs.declared.expr.Var.{Var}
 use Rattle.al_plan.specs.declared.expr.Expr.{Expr}
@@ -13,8 +13,8 @@ use Rattle.al_plan.specs.Eval.{Bytes}
 use Rattle.al_plan.specs.Accept.{size, size_step}
 use Rattle.al_plan.specs.Refines.{Fit, Replaces}
 use Rattle.al_plan.proofs.Refine.{fit_inputs, replaces-refl, under_Assign, under_Select, under_Project, under_Unnest, under_Subplan, under_Join, under_LeftJoin, under_Group, under_Distinct, under_Union, under_Aggregate, under_Order, under_Limit, under_Check, under_Result}
-use Rattle.al_rule.specs.Places.{Rewriting, input, input_step, with_input, with_input_step, Applied}
-use Rattle.al_rule.proofs.Operators.{rolls-out}
+use Rattle.al_rule.specs.Places.{Rewriting, input, input_step, with_input, with_input_step, plan_at, and_then, Applied}
+use Rattle.al_rule.proofs.Operators.{rolls-out, out-Select}
 
 -- an operator without one of its inputs
 pub data Around : Type 0 where
@@ -394,3 +394,22 @@ applied_goes_up R Down here up (i ∷ place) p q f h =
 -- what a sound rewriting makes of a part may stand in the plan's place
 pub applied_replaces : (R : Rewriting) → ((x y : Plan) → Fit x → R x y → Replaces y x) → (place : List ℕ) (p q : Plan) → Fit p → Applied R place p q → Replaces q p
 applied_replaces R sound place p q f h = applied_goes_up R Replaces sound (λ a x y fa k. replaces_under a y x fa k) place p q f h
+
+part_at : (o : Option Plan) (f : Plan → Option Plan) (x z : Plan) → o ≡ Some x → f x ≡ Some z → and_then o f ≡ Some z
+part_at o f x z e h = ap (λ (w : Option Plan). and_then w f) e ∙ h
+
+-- what is rewritten at a place matches there
+pub applied_matches : (R : Rewriting) (place : List ℕ) (p q : Plan) → Applied R place p q → (x : Plan) × (plan_at place p ≡ Some x) × ((y : Plan) × R x y)
+unfolding Applied plan_at
+applied_matches R [] p q h = (p, refl, (q, h))
+applied_matches R (i ∷ place) p q (x, y, e, inner, q_is) =
+    let (z, there, m) = applied_matches R place x y inner in
+    (z, part_at (input p i) (plan_at place) x z e there, m)
+
+select_layer : (a : Around) (x y z : Plan) (c : Expr) → layer a y ≡ L.Select c z → around a x ≡ P.Select c x
+select_layer (select d) x y z c e = let same : d ≡ c = cc in ap (λ (w : Expr). P.Select w x) same
+select_layer _ x y z c e = absurd cc
+
+-- an operator that is a select with one input is a select with any
+pub around_select : (a : Around) (x y z : Plan) (c : Expr) → around a y ≡ P.Select c z → around a x ≡ P.Select c x
+around_select a x y z c e = select_layer a x y z c (sym (out_around a y) ∙ ap out-Plan e ∙ out-Select c z)
