@@ -7,6 +7,7 @@ use std::alloc::Global;
 use std::process::Abort;
 use std::test::Fail;
 
+mod explanations;
 mod queries;
 
 const EMP: &str = "id,name,dept,pay\n1,Ann,X,10\n2,Bob,Y,20\n3,Cy,X,\n4,Di,,5\n";
@@ -155,7 +156,6 @@ fn refuses_words(rt: HostRuntime) -> Result<(), Fail> {
 #[test]
 fn serves_some_commands_later(rt: HostRuntime) -> Result<(), Fail> {
     is_usage(&rt, "run p")?;
-    is_usage(&rt, "explain p")?;
     is_usage(&rt, "frames p t")?;
     is_usage(&rt, "drill 1 1 p")
 }

@@ -15,7 +15,7 @@ const SUMS: &str =
 const NONE: &str = "id,name,dept,pay\n";
 
 /// A plan file over `emp.csv` and `dept.csv`. SCAN in the plan stands for the scan of emp.
-fn file_of(alloc: Global, listed: &str, plan: &str) -> Result<String, Fail> {
+pub fn file_of(alloc: Global, listed: &str, plan: &str) -> Result<String, Fail> {
     let plan = plan.replace(alloc, "SCAN", SCAN)?;
     Ok(format!(in alloc; "(algebricks 1 {DECL} {DEPT} (result ({listed}) {plan}))")?)
 }
