@@ -17,3 +17,4 @@ pub mod WalkLaws
 pub mod SelectRules
 pub mod CountLaws
 pub mod EntryLaws
+pub mod SubplanRules

@@ -13,7 +13,7 @@ use Rattle.al_plan.specs.declared.plan.OrderKey.{OrderKey}
 use Rattle.al_plan.specs.declared.plan.Plan.{Plan}
 use Rattle.al_plan.specs.declared.plan.Plan.TheVariants as P
 use Rattle.al_plan.specs.Eval.{Bytes, Env, bind, eval, holds}
-use Rattle.al_plan.specs.Names.{names}
+use Rattle.al_plan.specs.Names.{names, has_arities}
 use Rattle.al_plan.specs.Calls.{items}
 use Rattle.al_plan.specs.Allows.{Sets, Allows, live, is_among, cut, beside, with_new, assigned, expanded, nulls, matches, left_pairs, or_alone}
 use Rattle.al_plan.specs.Refines.{Fit, IsOver, AreAmong, Replaces, IsWithin, result_of}
@@ -249,3 +249,10 @@ pub both_parts : (a b : Bool) → (a && b) ≡ true → (a ≡ true) × (b ≡ t
 both_parts true b h = (refl, h)
 both_parts false true h = (h, refl)
 both_parts false false h = (h, h)
+
+-- an expression that names what two do, and has its arities where they have theirs: where it is over some variables, so are they
+pub both_over : (d : Expr) (vars : List Var) (a b : Expr) → names d ≡ names a ++ names b → has_arities d ≡ (has_arities a && has_arities b) → IsOver vars d → IsOver vars a × IsOver vars b
+both_over d vars a b named calls over =
+    let reads = among_parts vars (names a) (names b) (subst (AreAmong vars) named over.reads) in
+    let arities = both_parts (has_arities a) (has_arities b) (sym calls ∙ over.arities) in
+    (record { reads = reads.0; arities = arities.0 }, record { reads = reads.1; arities = arities.1 })
