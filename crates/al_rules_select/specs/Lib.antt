@@ -1,0 +1,3 @@
+pub mod Lowers
+pub mod Selects
+pub mod Sound

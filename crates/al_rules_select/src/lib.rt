@@ -1,0 +1,13 @@
+//! The sets of rules that take selects apart and move them down, after Algebricks' rules.
+#![tactic(auto)]
+
+mod below;
+mod lower;
+mod whole;
+
+pub use below::{
+    SelectBelowAssign, SelectBelowDistinct, SelectBelowJoinLeft, SelectBelowJoinRight,
+    SelectBelowLeftJoin, SelectBelowOrder, SelectBelowProject, SelectBelowSubplan,
+    SelectBelowUnnest,
+};
+pub use whole::{SelectIntoJoin, SelectTrue, SplitAnd};
