@@ -1,1 +1,2 @@
 pub mod ConjLaws
+pub mod FirstLaws
