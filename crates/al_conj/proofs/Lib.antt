@@ -1,2 +1,3 @@
 pub mod ConjLaws
 pub mod FirstLaws
+pub mod Literals

@@ -4,7 +4,8 @@ use Rattle.std.specs.List.{list_any}
 use Rattle.al_value.specs.declared.value.Value.TheVariants as V
 use Rattle.al_func.specs.declared.func.Func.{Func}
 use Rattle.al_func.specs.declared.func.Func.TheVariants as F
-use Rattle.al_plan.specs.declared.expr.Expr.{Expr, fold-Expr}
+use Rattle.al_func.specs.Func.{is_true}
+use Rattle.al_plan.specs.declared.expr.Expr.{Expr, fold-Expr, out-Expr}
 use Rattle.al_plan.specs.declared.expr.Expr.TheVariants as E
 use Rattle.al_plan.specs.declared.expr.Expr.TheOpen.{Expr-F}
 use Rattle.al_plan.specs.declared.expr.Expr.TheOpen as L
@@ -40,6 +41,14 @@ abbrev pub all_of : List Expr → Expr
 all_of [] = E.Lit (V.Bool true)
 all_of (e ∷ []) = e
 all_of (e ∷ d ∷ es) = both e (all_of (d ∷ es))
+
+-- whether an expression is the literal true
+abbrev pub literal_step : Expr-F Expr → Bool
+literal_step (L.Lit v) = is_true v
+literal_step _ = false
+
+unfoldable pub is_literal_true : Expr → Bool
+is_literal_true e = literal_step (out-Expr e)
 
 -- the first conjunct with the property, and the others
 pub record IsFirst (has : Expr → Bool) (c first : Expr) (before after : List Expr) : Type 0 where

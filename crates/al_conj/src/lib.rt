@@ -8,5 +8,8 @@ mod split;
 
 pub use condition::{all_of, both, conjuncts, is_and};
 pub use laws::conjunct_laws;
-pub use property::{Property, has_conjunct};
+pub use property::{LiteralTrue, Property, has_conjunct};
 pub use split::{Split, take_first};
+
+#[cfg(test)]
+mod tests;
