@@ -41,16 +41,16 @@ pairs_left : (xs : List Var) (d e c : Expr) (ls rs : List Env) → AllByRecursio
 pairs_left xs d e c [] rs h = refl
 pairs_left xs d e c (a ∷ ls) rs h = (λ i. matches_left xs d e c a (holds e a) refl rs h.0 i ++ pairs_left xs d e c ls rs h.1 i) ∙ sym (flat_cond (matches xs c rs) (holds e a) a (filter (holds e) ls))
 
-pairs_right : (xs : List Var) (d e c : Expr) (ls rs : List Env) → AllByRecursion (λ a. AllByRecursion (SplitsRight xs d e c a) rs) ls → pairs xs d ls rs ≡ pairs xs c ls (filter (holds e) rs)
+pub pairs_right : (xs : List Var) (d e c : Expr) (ls rs : List Env) → AllByRecursion (λ a. AllByRecursion (SplitsRight xs d e c a) rs) ls → pairs xs d ls rs ≡ pairs xs c ls (filter (holds e) rs)
 pairs_right xs d e c [] rs h = refl
 pairs_right xs d e c (a ∷ ls) rs h = λ i. matches_right xs d e c a rs h.0 i ++ pairs_right xs d e c ls rs h.1 i
 
-left_pairs_right : (xs : List Var) (d e c : Expr) (ls rs : List Env) → AllByRecursion (λ a. AllByRecursion (SplitsRight xs d e c a) rs) ls → left_pairs xs d ls rs ≡ left_pairs xs c ls (filter (holds e) rs)
+pub left_pairs_right : (xs : List Var) (d e c : Expr) (ls rs : List Env) → AllByRecursion (λ a. AllByRecursion (SplitsRight xs d e c a) rs) ls → left_pairs xs d ls rs ≡ left_pairs xs c ls (filter (holds e) rs)
 left_pairs_right xs d e c [] rs h = refl
 left_pairs_right xs d e c (a ∷ ls) rs h = λ i. or_alone (beside xs a nulls) (matches_right xs d e c a rs h.0 i) ++ left_pairs_right xs d e c ls rs h.1 i
 
 -- what holds of each two rows within these variables holds of all pairs of rows
-all_pairs : (xs ys : List Var) (Q : Env → Env → Type 0) → ((a b : Env) → IsWithin xs a → IsWithin ys b → Q a b) → (ls rs : List Env) → AllByRecursion (IsWithin xs) ls → AllByRecursion (IsWithin ys) rs → AllByRecursion (λ a. AllByRecursion (Q a) rs) ls
+pub all_pairs : (xs ys : List Var) (Q : Env → Env → Type 0) → ((a b : Env) → IsWithin xs a → IsWithin ys b → Q a b) → (ls rs : List Env) → AllByRecursion (IsWithin xs) ls → AllByRecursion (IsWithin ys) rs → AllByRecursion (λ a. AllByRecursion (Q a) rs) ls
 all_pairs xs ys Q f [] rs h g = tt
 all_pairs xs ys Q f (a ∷ ls) rs h g = (each a h.0 rs g, all_pairs xs ys Q f ls rs h.1 g)
   where
@@ -58,7 +58,7 @@ all_pairs xs ys Q f (a ∷ ls) rs h g = (each a h.0 rs g, all_pairs xs ys Q f ls
     each a w [] g = tt
     each a w (b ∷ rs) g = (f a b w g.0, each a w rs g.1)
 
-rows_within : (p : Plan) (b : Bool) (sets : Sets) (rows : List Env) → Allows p b sets [] [] rows → AllByRecursion (IsWithin (live p [])) rows
+pub rows_within : (p : Plan) (b : Bool) (sets : Sets) (rows : List Env) → Allows p b sets [] [] rows → AllByRecursion (IsWithin (live p [])) rows
 rows_within p b sets rows h = recursion_from_All (IsWithin (live p [])) rows (within p b sets [] [] rows (λ k d low. absurd (omega arith)) h)
 
 -- a join and one that keeps first what its condition asks of the left row

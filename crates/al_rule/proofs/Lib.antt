@@ -5,3 +5,9 @@ pub mod SelectOrder
 pub mod Bound
 pub mod SelectDistinct
 pub mod Joins
+pub mod Alike
+pub mod FitLaws
+pub mod Passing
+pub mod SelectLaws
+pub mod JoinLaws
+pub mod LiveLaws

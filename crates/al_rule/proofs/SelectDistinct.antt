@@ -124,7 +124,7 @@ different vars (r ∷ rows) h =
     ]
 
 -- what passes a filter is in what the filter keeps
-kept_by : {X : Type 0} (p : X → Bool) (xs : List X) → AllByRecursion (λ x. p x ≡ true → Contains (filter p xs) x) xs
+pub kept_by : {X : Type 0} (p : X → Bool) (xs : List X) → AllByRecursion (λ x. p x ≡ true → Contains (filter p xs) x) xs
 kept_by p [] = tt
 kept_by p (x ∷ xs) = go (p x) refl (kept_by p xs)
   where

@@ -4,3 +4,4 @@ pub mod Driven
 pub mod Chains
 pub mod Pairs
 pub mod Laws
+pub mod Reads

@@ -3,12 +3,14 @@
 
 mod drive;
 mod laws;
+mod live;
 mod names;
 mod rule;
 mod trace;
 
 pub use drive::{drive_fixpoint, drive_once};
 pub use laws::{chain_laws, join_laws, select_laws};
+pub use live::{is_live, reads_live, reads_none};
 pub use names::{RuleName, SetName};
 pub use rule::{ApplyFault, Rule, RuleSet};
 pub use trace::{Trace, TraceStep};
