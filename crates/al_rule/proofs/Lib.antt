@@ -11,3 +11,6 @@ pub mod Passing
 pub mod SelectLaws
 pub mod JoinLaws
 pub mod LiveLaws
+pub mod Operators
+pub mod PlaceLaws
+pub mod WalkLaws

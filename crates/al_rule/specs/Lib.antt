@@ -5,3 +5,4 @@ pub mod Chains
 pub mod Pairs
 pub mod Laws
 pub mod Reads
+pub mod Walks

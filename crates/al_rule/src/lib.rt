@@ -2,9 +2,11 @@
 #![tactic(auto)]
 
 mod drive;
+mod find;
 mod laws;
 mod live;
 mod names;
+mod place;
 mod rule;
 mod trace;
 
