@@ -14,3 +14,4 @@ pub mod LiveLaws
 pub mod Operators
 pub mod PlaceLaws
 pub mod WalkLaws
+pub mod DriveLaws
