@@ -9,12 +9,15 @@ use Rattle.std.proofs.lemmas.List.Folds.{list_any_none}
 use Rattle.std.proofs.lemmas.List.Sums.{fails_before_first}
 use Rattle.std.proofs.lemmas.List.Quantifiers.{position-Some}
 
-pub no_place : {X : Type 0} (p : X → Bool) (xs : List X) → position p xs ≡ None → list_any p xs ≡ false
+no_place : {X : Type 0} (p : X → Bool) (xs : List X) → position p xs ≡ None → list_any p xs ≡ false
 no_place p xs none = go (nat_lt (position_or_len p xs) (length xs)) refl none
   where
     go : (b : Bool) → nat_lt (position_or_len p xs) (length xs) ≡ b → cond b (Some (position_or_len p xs)) None ≡ None → list_any p xs ≡ false
     go true e h = cc
     go false e h = let past = ltb-false (position_or_len p xs) (length xs) e in list_any_none p xs (λ k d low. fails_before_first p xs k d (omega arith))
+
+pub none_in : {X : Type 0} (p : X → Bool) (xs ys : List X) → ys ≡ xs → position p ys ≡ None → list_any p xs ≡ false
+none_in p xs ys same none = ap (list_any p) (sym same) ∙ no_place p ys none
 
 pub at_place : {X : Type 0} (p : X → Bool) (xs : List X) (i : ℕ) (x : X) → position p xs ≡ Some i → x ≡ get_or xs i x
     → (xs ≡ take i xs ++ x ∷ drop (suc i) xs) × (list_any p (take i xs) ≡ false) × (p x ≡ true)

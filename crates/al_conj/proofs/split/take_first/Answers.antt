@@ -1,14 +1,12 @@
 use Rattle.std.proofs.Common.{suc, take, drop, sym, ap, ◌∙◌}
-use Rattle.std.specs.List.{list_any, position}
-use Rattle.al_conj.specs.Conj.{all_of}
-use Rattle.al_conj.proofs.FirstLaws.{no_place, at_place}
+use Rattle.std.specs.List.{position}
+use Rattle.al_conj.specs.Conj.{conj, all_of}
+use Rattle.al_conj.proofs.FirstLaws.{none_in, at_place}
 use Rattle.al_conj.proofs.split.take_first.Goals as goal
 
 pub returns-in_default : goal.returns-in_default
 returns-in_default g c =
-    let has = g.P.Property.holds_of c.args.property.now in
-    let same = c.as_slice.ensures.value ∙ c.into_vec-others.ensures ∙ c.in_ok-conjuncts.ensures in
-    ap (list_any has) (sym same) ∙ no_place has c.as_slice.result.now (sym (c.in_default.ensures {u = tt}))
+    none_in (g.P.Property.holds_of c.args.property.now) (conj c.args.e.now) c.as_slice.result.now (c.as_slice.ensures.value ∙ c.into_vec-others.ensures ∙ c.in_ok-conjuncts.ensures) (sym (c.in_default.ensures {u = tt}))
 
 pub returns : goal.returns
 returns g c =
