@@ -1,5 +1,5 @@
 -- What a walk finds, and what a rewriting at its place leaves as it was.
-use Rattle.std.proofs.Common.{◌≡◌, ◌<◌, ◌≤◌, ℕ, zero, suc, List, [], ◌∷◌, length, Option, Some, None, Result, Ok, Err, IfOk, refl, ap, sym, subst, ◌∙◌, arith}
+use Rattle.std.proofs.Common.{◌≡◌, ◌<◌, ℕ, zero, suc, List, [], ◌∷◌, length, Option, Some, None, Result, Ok, Err, IfOk, refl, ap, sym, subst, ◌∙◌, arith}
 use Rattle.al_plan.specs.declared.plan.Plan.{Plan}
 use Rattle.al_rule.specs.declared.find.Found.{Found}
 use Rattle.al_rule.specs.Places.{Rewriting, input, with_input, plan_at, and_then, Applied}
@@ -27,6 +27,15 @@ part_above i place p z x h e = ap (λ (o : Option Plan). and_then o (plan_at pla
 
 pub one_input : (p : Plan) (i : ℕ) (x y : Plan) → input p i ≡ Some x → input p i ≡ Some y → x ≡ y
 one_input p i x y e h = cc
+
+at_root : (p : Plan) → plan_at [] p ≡ Some p
+unfolding plan_at
+at_root p = refl
+
+matches_below : (R : Rewriting) (i : ℕ) (place : List ℕ) (p x : Plan) → input p i ≡ Some x → MatchesAt R (i ∷ place) p → MatchesAt R place x
+matches_below R i place p x here (y, at_place, m) =
+    let (z, there, behind) = part_below i place p y at_place in
+    (y, subst (λ (q : Plan). plan_at place q ≡ Some y) (one_input p i z x there here) behind, m)
 
 pub none_of : (xs : List ℕ) → length xs ≡ 0 → xs ≡ []
 none_of [] e = refl
@@ -107,10 +116,9 @@ below_before rules i place p b = b.2
 
 -- ---- what is found
 
-pub root_found : (rules : Rules) (from place : List ℕ) (p : Plan) (k : ℕ) → place ≡ [] → k < rules.count → Matches (rules.rewrites k) p → IsNext rules from p k place
-unfolding plan_at
-root_found rules from place p k is low m =
-    let here : IsNext rules from p k [] = (low, (p, refl, m), λ b. none_at_root rules p) in
+pub root_found : (rules : Rules) (from place : List ℕ) (p : Plan) (k : ℕ) → place ≡ [] → k < rules.count → Matches (rules.rewrites k) p → ((j : ℕ) → j < k → Matches (rules.rewrites j) p → ⊥) → IsNext rules from p k place
+root_found rules from place p k is low m first =
+    let here : IsNext rules from p k [] = (low, (p, at_root p, m), λ b. none_at_root rules p, λ j less (x, e, n). first j less (root_matches (rules.rewrites j) p x e n)) in
     subst (λ (l : List ℕ). IsNext rules from p k l) (sym is) here
 
 first_place : (rules : Rules) (p : Plan) → NoneHere rules p → NoneBefore rules (zero ∷ []) p
@@ -119,7 +127,7 @@ first_place rules p here = none_before rules zero [] p here (λ j low. absurd (o
 -- past the root the walk goes on at the first input
 pub past_root : (rules : Rules) (p : Plan) → NoneHere rules p → (r : Option Found) → Finds rules (zero ∷ []) p r → Finds rules [] p r
 past_root rules p here None h = λ b. h (first_place rules p here)
-past_root rules p here (Some f) (low, m, next) = (low, m, λ b. next (first_place rules p here))
+past_root rules p here (Some f) (low, m, next, first) = (low, m, λ b. next (first_place rules p here), first)
 
 pub past_root_from : (rules : Rules) (from : List ℕ) (p : Plan) → from ≡ [] → NoneHere rules p → (r : Option Found) → Finds rules (zero ∷ from) p r → Finds rules from p r
 past_root_from rules from p is here r h = subst (λ (l : List ℕ). Finds rules l p r) (sym is) (past_root rules p here r (subst (λ (l : List ℕ). Finds rules (zero ∷ l) p r) is h))
@@ -129,13 +137,18 @@ part_found rules i from p part here h x e b =
     let same : part ≡ x = one_input p i part x here e in
     subst (Stuck rules) same (h (subst (NoneBefore rules from) (sym same) b))
 
+pub found_below : (rules : Rules) (i : ℕ) (from : List ℕ) (p part : Plan) (found f : Found) → input p i ≡ Some part → Finds rules from part (Some found) → f.rule ≡ found.rule → f.place.children ≡ i ∷ found.place.children → FindsIn rules i from p (Some f)
+found_below rules i from p part found f here h rule_is place_is =
+    (found.place.children, place_is, (part, here, subst (λ (k : ℕ). IsNext rules from part k found.place.children) (sym rule_is) h))
+
 pub found_here : (rules : Rules) (i : ℕ) (from : List ℕ) (p : Plan) (f : Found) → FindsIn rules i from p (Some f) → Finds rules (i ∷ from) p (Some f)
-found_here rules i from p f (rest, is, (x, here, (low, (y, at_place, m), next))) =
+found_here rules i from p f (rest, is, (x, here, (low, (y, at_place, m), next, first))) =
     let found : IsNext rules (i ∷ from) p f.rule (i ∷ rest) = (
       low,
       (y, part_above i rest p x y here at_place, m),
       λ b. none_before rules i rest p (root_before rules i from p b) (left_before rules i from p b) (λ z e.
           subst (NoneBefore rules rest) (one_input p i x z here e) (next (below_before rules i from p b x here))),
+      λ j less n. first j less (matches_below (rules.rewrites j) i rest p x here n),
     ) in
     subst (λ (place : List ℕ). IsNext rules (i ∷ from) p f.rule place) (sym is) found
 
@@ -147,13 +160,14 @@ two_inputs rules from p first second b (suc (suc i)) x e = let none : input p (s
 
 pub found_later : (rules : Rules) (from : List ℕ) (p : Plan) → FindsIn rules zero from p None → (r : Option Found) → FindsIn rules (suc zero) [] p r → Finds rules (zero ∷ from) p r
 found_later rules from p first None second = λ b. stuck_by_parts rules p (root_before rules zero from p b) (two_inputs rules from p first second b)
-found_later rules from p first (Some f) (rest, is, (x, here, (low, (y, at_place, m), next))) =
+found_later rules from p first (Some f) (rest, is, (x, here, (low, (y, at_place, m), next, best))) =
     let found : IsNext rules (zero ∷ from) p f.rule (suc zero ∷ rest) = (
       low,
       (y, part_above (suc zero) rest p x y here at_place, m),
       λ b. none_before rules (suc zero) rest p (root_before rules zero from p b)
           (λ j below z e. let j_is : j ≡ zero = omega arith in let at_first : input p zero ≡ Some z = subst (λ (n : ℕ). input p n ≡ Some z) j_is e in first z at_first (below_before rules zero from p b z at_first))
           (λ z e. subst (NoneBefore rules rest) (one_input p (suc zero) x z here e) (next (none_at_root rules x))),
+      λ j less n. best j less (matches_below (rules.rewrites j) (suc zero) rest p x here n),
     ) in
     subst (λ (place : List ℕ). IsNext rules (zero ∷ from) p f.rule place) (sym is) found
 

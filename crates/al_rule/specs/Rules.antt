@@ -1,5 +1,5 @@
 -- Sets of rules: what their rules rewrite, and when none of them matches.
-use Rattle.std.specs.Prelude.{◌≡◌, ◌<◌, ◌⊎◌, ℕ, Bool, true, false, List, [], ◌∷◌, Option, Some, None, Result, Ok, Err}
+use Rattle.std.specs.Prelude.{◌≡◌, ◌<◌, ◌⊎◌, ℕ, Bool, true, false, List, ◌∷◌, Some, Result, Ok, Err}
 use Rattle.al_plan.specs.declared.plan.Plan.{Plan}
 use Rattle.al_plan.specs.Refines.{Fit, Replaces}
 use Rattle.al_rule.specs.declared.names.SetName.{SetName}

@@ -1,14 +1,100 @@
 //! The controllers: a set of rules driven once, or until none of its rules matches.
 
-ghost use Rattle.std.specs.Prelude.{◌≡◌, IfOk};
+ghost use Rattle.std.specs.Prelude.{◌≡◌, ◌<◌, ◌++◌, ◌∷◌, [], true, false, IfOk, OnOk, OnErr};
 ghost use Rattle.al_plan.specs.Refines.{Fit, Replaces};
+ghost use Rattle.al_rule.specs.Places.{Applied};
 ghost use Rattle.al_rule.specs.Rules.{Stuck, IsLocal};
 ghost use Rattle.al_rule.specs.Driven.{Drove, reached};
+ghost use Rattle.al_rule.specs.Walks.{MatchesAt, Records, StepsTo};
 
+use crate::find::{Found, find};
+use crate::place::apply_at;
 use crate::rule::{ApplyFault, RuleSet};
-use crate::trace::Trace;
-use al_plan::Plan;
+use crate::trace::{Trace, TraceStep};
+use al_plan::{Place, Plan};
+use al_value::{List, NoMemory};
 use std::alloc::Global;
+
+/// The plan with the rule applied that was found, beside the plan as it is.
+fn rewritten<S: RuleSet>(
+    alloc: Global,
+    set: &S,
+    plan: &Plan,
+    found: &Found,
+) -> Result<Plan, NoMemory>
+    requires { found.now.rule < (S.rules_of set.now).count }
+    ensures { MatchesAt ((S.rules_of set.now).rewrites found.now.rule) found.now.place.children plan.now → IfOk result (λ q. Applied ((S.rules_of set.now).rewrites found.now.rule) found.now.place.children plan.now q) }
+{
+    let copy = plan.copy(alloc)?;
+    apply_at(
+        alloc,
+        set,
+        found.rule,
+        copy,
+        found.place.children.as_slice(),
+    )
+}
+
+/// Writes down that the rule is applied that was found.
+fn note<S: RuleSet>(alloc: Global, set: &S, t: &mut Trace, found: &Found) -> Result<(), NoMemory>
+    requires { found.now.rule < (S.rules_of set.now).count }
+    ensures ok { OnOk result (Records (S.rules_of set.now) found.now.rule found.now.place.children t.old t.new) }
+    ensures err { OnErr result (t.new.steps ≡ t.old.steps) }
+{
+    let mut children = List::new(alloc);
+    children.extend(found.place.children.as_slice())?;
+    let step = TraceStep {
+        set: set.name(),
+        rule: set.rule(found.rule),
+        place: Place { children },
+    };
+    t.steps.push(step)?;
+    Ok(())
+}
+
+/// Applies the rule that was found. The plan and the trace change together, or not at all.
+fn step<S: RuleSet>(
+    alloc: Global,
+    set: &S,
+    plan: &mut Plan,
+    t: &mut Trace,
+    found: &Found,
+) -> Result<(), NoMemory>
+    requires rule { found.now.rule < (S.rules_of set.now).count }
+    requires place { MatchesAt ((S.rules_of set.now).rewrites found.now.rule) found.now.place.children plan.old }
+    ensures ok { OnOk result (StepsTo (S.rules_of set.now) found.now.place.children plan.old t.old plan.new t.new) }
+    ensures same_plan { OnErr result (plan.new ≡ plan.old) }
+    ensures same_trace { OnErr result (t.new.steps ≡ t.old.steps) }
+{
+    let next = rewritten(alloc, set, plan, found)?;
+    note(alloc, set, t, found)?;
+    *plan = next;
+    Ok(())
+}
+
+/// Walks the plan once, and tells whether a rule was applied.
+fn walk<S: RuleSet>(
+    alloc: Global,
+    set: &S,
+    plan: &mut Plan,
+    t: &mut Trace,
+) -> Result<bool, NoMemory>
+    requires { Fit plan.old }
+    ensures driven { Drove (S.rules_of set.now) plan.old t.old t.new plan.new }
+    ensures fit { Fit plan.new }
+    ensures stuck { IsLocal (S.rules_of set.now) → IfOk result (λ applied. Stuck (S.rules_of set.now) plan.new) }
+    ensures unapplied { IfOk result (λ applied. applied ≡ false → Stuck (S.rules_of set.now) plan.new) }
+    ensures lighter { IfOk result (λ applied. applied ≡ true → S.weight set.now plan.new < S.weight set.now plan.old) }
+{
+    let mut from = List::new(alloc);
+    let mut applied = false;
+    while let Some(found) = find(alloc, set, plan, from.as_slice())? {
+        step(alloc, set, plan, t, &found)?;
+        from = found.place.children;
+        applied = true;
+    }
+    Ok(applied)
+}
 
 /// Walks the plan once: the places in pre-order, inputs by their number. At each place, while a
 /// rule of the set matches, the first one in the set's order is applied there. Then the walk goes
@@ -24,7 +110,11 @@ pub fn drive_once<S: RuleSet>(
     ensures replaces { Replaces (reached result) p }
     ensures stuck { IsLocal (S.rules_of set.now) → IfOk result (λ q. Stuck (S.rules_of set.now) q) }
 {
-    Err(ApplyFault::NoMemory(p))
+    let mut plan = p;
+    match walk(alloc, set, &mut plan, t) {
+        Ok(_) => Ok(plan),
+        Err(_) => Err(ApplyFault::NoMemory(plan)),
+    }
 }
 
 /// Walks the plan until a walk applies nothing.
@@ -39,5 +129,12 @@ pub fn drive_fixpoint<S: RuleSet>(
     ensures replaces { Replaces (reached result) p }
     ensures stuck { IfOk result (λ q. Stuck (S.rules_of set.now) q) }
 {
-    Err(ApplyFault::NoMemory(p))
+    let mut plan = p;
+    loop {
+        match walk(alloc, set, &mut plan, t) {
+            Ok(true) => {}
+            Ok(false) => return Ok(plan),
+            Err(_) => return Err(ApplyFault::NoMemory(plan)),
+        }
+    }
 }

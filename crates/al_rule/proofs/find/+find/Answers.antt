@@ -1,12 +1,12 @@
-use Rattle.std.proofs.Common.{◌∷◌, [], ◌≡◌, arith, subst, Option}
+use Rattle.std.proofs.Common.{◌∷◌, [], ◌≡◌, arith, subst}
 use Rattle.al_rule.specs.Walks.{Finds, FindsIn}
 use Rattle.al_rule.proofs.PlaceLaws.{input_smaller}
-use Rattle.al_rule.proofs.WalkLaws.{none_of, ok_more, root_found, past_root_from, found_here, later_from, found_none, part_found}
+use Rattle.al_rule.proofs.WalkLaws.{none_of, ok_more, root_found, past_root_from, found_here, later_from, found_none, part_found, found_below}
 use Rattle.al_rule.proofs.find.+find.Goals as goal
 
 pub find-returns-in-Some-first_rule : goal.find-returns-in-Some-first_rule
 find-returns-in-Some-first_rule g t c =
-    root_found (g.S.RuleSet.rules_of c.args.set.now) c.args.from.now c.new.result c.args.p.now c.in-Some-first_rule.rule c.new.ensures c.in-Some-first_rule.ensures.0 c.in-Some-first_rule.ensures.1
+    root_found (g.S.RuleSet.rules_of c.args.set.now) c.args.from.now c.new.result c.args.p.now c.in-Some-first_rule.rule c.new.ensures c.in-Some-first_rule.ensures.0 c.in-Some-first_rule.ensures.1 c.in-Some-first_rule.ensures.2
 
 pub find-returns-in-None-first_rule : goal.find-returns-in-None-first_rule
 find-returns-in-None-first_rule g t c =
@@ -41,3 +41,9 @@ pub find_in-returns-in-None-2 : goal.find_in-returns-in-None-2
 find_in-returns-in-None-2 g t c =
     let rules = g.S.RuleSet.rules_of c.args.set.now in
     part_found rules c.args.i c.args.from.now c.args.p.now c.in-Some.part.now c.in-Some.ensures (subst (Finds rules c.args.from.now c.in-Some.part.now) c.in-None-2.is c.in_ok-find-in-Some.ensures)
+
+pub find_in-returns-in_ok-below-in-Some-2 : goal.find_in-returns-in_ok-below-in-Some-2
+find_in-returns-in_ok-below-in-Some-2 g t c =
+    let rules = g.S.RuleSet.rules_of c.args.set.now in
+    let found = subst (Finds rules c.args.from.now c.in-Some.part.now) c.in-Some-2.is c.in_ok-find-in-Some.ensures in
+    found_below rules c.args.i c.args.from.now c.args.p.now c.in-Some.part.now c.in-Some-2.found c.in_ok-below-in-Some-2.field-0 c.in-Some.ensures found c.in_ok-below-in-Some-2.ensures.0 c.in_ok-below-in-Some-2.ensures.1
