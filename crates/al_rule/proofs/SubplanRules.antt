@@ -1,7 +1,7 @@
 -- A select goes below a subplan: a nested plan gives a row for each row that the select drops, too.
-use Rattle.std.proofs.Common.{◌≡◌, ◌≢◌, ℕ, Bool, true, false, cond, List, [], ◌∷◌, ◌++◌, map, filter, flat_map, take, drop, refl, ap, sym, subst, ◌∙◌, append-nil, arith}
-use Rattle.std.specs.List.{All, AllByRecursion, AllZip, Contains}
-use Rattle.std.specs.List.Sorted.{IsPermutation, IsSorted}
+use Rattle.std.proofs.Common.{◌≡◌, ◌≢◌, Bool, true, false, cond, List, [], ◌∷◌, map, filter, flat_map, take, drop, refl, ap, sym, subst, ◌∙◌, append-nil, arith}
+use Rattle.std.specs.List.{All, AllByRecursion, AllZip}
+use Rattle.std.specs.List.Sorted.{IsPermutation}
 use Rattle.std.specs.Ordering.{is_lt}
 use Rattle.std.proofs.lemmas.List.Elements.{recursion_from_All, All-from_recursion}
 use Rattle.std.proofs.lemmas.List.Sorted.{IsPermutation-refl}
@@ -143,10 +143,10 @@ below_subplan e n p none fit =
     let apart : ReadsNone (live n (live p [])) e = subst (λ (vs : List Var). ReadsNone vs e) (same_live n sub.aggregates [] (live p [])) none in
     let reads = over_less (live p []) (live n (live p [])) e (subst (λ (vs : List Var). IsOver vs e) (live-Subplan n p []) top.over) apart in
     select_goes_below (P.Subplan n) (operator_Subplan n) e p fit reads (λ b sets rows h.
-        let o = from_Subplan n (P.Select e p) b sets [] [] rows h in
-        let s = from_Select e p b sets [] [] o.0 o.1 in
-        let here : AllZip (Paired n b sets (live p [])) o.0 rows = subst (λ (vs : List Var). AllZip (Paired n b sets vs) o.0 rows) (live-Select e p []) o.2 in
-        let kept : AllZip (Paired n b sets (live p [])) (filter (holds e) s.0) rows = subst (λ (zs : List Env). AllZip (Paired n b sets (live p [])) zs rows) s.2 here in
-        let inputs = recursion_from_All (IsWithin (live p [])) s.0 (within p b sets [] [] s.0 (λ k d low. absurd (omega arith)) s.1) in
-        let more = extend n (live p []) sub.inner sub.aggregates b sets (live p []) e apart s.0 rows inputs kept in
-        allows_Select e (P.Subplan n p) b sets [] [] rows (more.0, allows_Subplan n p b sets [] [] more.0 (s.0, s.1, more.1), more.2))
+    let o = from_Subplan n (P.Select e p) b sets [] [] rows h in
+    let s = from_Select e p b sets [] [] o.0 o.1 in
+    let here : AllZip (Paired n b sets (live p [])) o.0 rows = subst (λ (vs : List Var). AllZip (Paired n b sets vs) o.0 rows) (live-Select e p []) o.2 in
+    let kept : AllZip (Paired n b sets (live p [])) (filter (holds e) s.0) rows = subst (λ (zs : List Env). AllZip (Paired n b sets (live p [])) zs rows) s.2 here in
+    let inputs = recursion_from_All (IsWithin (live p [])) s.0 (within p b sets [] [] s.0 (λ k d low. absurd (omega arith)) s.1) in
+    let more = extend n (live p []) sub.inner sub.aggregates b sets (live p []) e apart s.0 rows inputs kept in
+    allows_Select e (P.Subplan n p) b sets [] [] rows (more.0, allows_Subplan n p b sets [] [] more.0 (s.0, s.1, more.1), more.2))

@@ -1,5 +1,5 @@
 -- Which plans the rules of selects rewrite, and that what they make is that.
-use Rattle.std.proofs.Common.{◌≡◌, ℕ, Bool, true, false, List, [], ◌∷◌, map, refl, ap, sym, subst, ◌∙◌, Option, Some, None, Result, Ok, Err, IfOk}
+use Rattle.std.proofs.Common.{◌≡◌, ℕ, Bool, true, false, List, [], ◌∷◌, map, refl, ap, sym, subst, ◌∙◌, Some, Result, Ok, Err, IfOk}
 use Rattle.al_plan.specs.declared.expr.Var.{Var}
 use Rattle.al_plan.specs.declared.expr.Expr.{Expr}
 use Rattle.al_plan.specs.declared.plan.Generator.{Generator}
@@ -15,11 +15,10 @@ use Rattle.al_rule.specs.declared.rule.ApplyFault.{ApplyFault}
 use Rattle.al_rule.specs.Places.{Rewriting, input, with_input}
 use Rattle.al_rule.specs.Rules.{Decides, Matches}
 use Rattle.al_rule.specs.Reads.{ReadsNone}
-use Rattle.al_rule.proofs.Operators.{out-Select, out-Assign, out-Project, out-Unnest, out-Subplan, out-Order, out-Distinct, out-Join, out-LeftJoin}
+use Rattle.al_rule.proofs.Operators.{out-Select, out-Assign, out-Unnest, out-Subplan, out-Join, out-LeftJoin}
 use Rattle.al_rule.proofs.PlaceLaws.{Around, around, number, input_around, with_around, assign, project, unnest, subplan, order, distinct, join_left, join_right, left_join_left}
 use Rattle.al_rules_select.specs.Lowers.{IsNoSelect, Lowers}
 use Rattle.al_rules_select.specs.Selects as rule
-use Rattle.al_rules_select.specs.Sound as sound
 
 pub same_select : (c d : Expr) (x y : Plan) → P.Select c x ≡ P.Select d y → (c ≡ d) × (x ≡ y)
 same_select c d x y e = let h : L.Select c x ≡ L.Select d y = sym (out-Select c x) ∙ ap out-Plan e ∙ out-Select d y in (cc, cc)
@@ -210,4 +209,3 @@ yes_left_join p e x c l r b is has d = decides_from b (AreAmong (live l []) (nam
 
 pub applied_left_join : (p : Plan) (result : Result Plan ApplyFault) → IfOk result (Lowers 0 p) → Matches rule.SelectBelowLeftJoin p → IfOk result (λ q. rule.SelectBelowLeftJoin p q)
 applied_left_join p result h (q, (e, c, y, r, at, k, to)) = if_ok result (Lowers 0 p) (λ q. rule.SelectBelowLeftJoin p q) (λ q low. (e, c, y, r, at, k, put_below (left_join_left c r) p q e y at low)) h
-

@@ -1,5 +1,5 @@
 -- Which plans the other rules of selects rewrite, and that what they make is that.
-use Rattle.std.proofs.Common.{◌≡◌, Bool, true, false, List, [], ◌∷◌, refl, ap, sym, subst, ◌∙◌, Result, Ok, Err, IfOk}
+use Rattle.std.proofs.Common.{◌≡◌, Bool, true, [], ◌∷◌, refl, ap, sym, subst, ◌∙◌, Result, Ok, Err, IfOk}
 use Rattle.al_value.specs.declared.value.Value.TheVariants as V
 use Rattle.al_value.specs.declared.fault.NoMemory.{NoMemory}
 use Rattle.al_func.specs.declared.func.Func.TheVariants as F
@@ -10,7 +10,6 @@ use Rattle.al_plan.specs.declared.plan.Plan.{Plan}
 use Rattle.al_plan.specs.declared.plan.Plan.TheVariants as P
 use Rattle.al_conj.specs.Conj.{both, IsLeaf}
 use Rattle.al_rule.specs.declared.rule.ApplyFault.{ApplyFault}
-use Rattle.al_rule.specs.Places.{Rewriting}
 use Rattle.al_rule.specs.Rules.{Decides, Matches}
 use Rattle.al_rules_select.specs.Lowers.{IsNoSelect, Splits, Uncovers, Joins}
 use Rattle.al_rules_select.specs.Selects as rule
@@ -41,7 +40,7 @@ yes_split p e x a b is h = (P.Select a (P.Select b x), (a, b, x, is ∙ ap (λ (
 
 pub splits_ok : (p : Plan) (e : Expr) (x : Plan) (a b : Expr) (result : Result Plan NoMemory) → p ≡ P.Select e x → e ≡ both a b → IfOk result (λ q. q ≡ P.Select a (P.Select b x)) → IfOk result (Splits p)
 splits_ok p e x a b (Err w) is h made = made
-splits_ok p e x a b (Ok q) is h made c d y at =
+splits_ok p e x a b (Ok q) is h made = λ c d y at.
     let s = same_select e (both c d) x y (sym is ∙ at) in
     let t = same_both a b c d (sym h ∙ s.0) in
     made ∙ (λ i. P.Select (t.0 i) (P.Select (t.1 i) (s.1 i)))
@@ -62,7 +61,7 @@ yes_true p e x b is d = decides_from b (e ≡ E.Lit (V.Bool true)) (Matches rule
 
 pub uncovers_ok : (p : Plan) (e : Expr) (x : Plan) (result : Result Plan NoMemory) → p ≡ P.Select e x → IfOk result (λ q. q ≡ x) → IfOk result (Uncovers p)
 uncovers_ok p e x (Err w) is made = made
-uncovers_ok p e x (Ok q) is made d y at = made ∙ (same_select e d x y (sym is ∙ at)).1
+uncovers_ok p e x (Ok q) is made = λ d y at. made ∙ (same_select e d x y (sym is ∙ at)).1
 
 pub applied_true : (p : Plan) (result : Result Plan ApplyFault) (made : Result Plan NoMemory) → IfOk made (Uncovers p) → IfOk result (λ q. made ≡ Ok q) → Matches rule.SelectTrue p → IfOk result (λ q. rule.SelectTrue p q)
 applied_true p result made h e (q, (x, at, to)) = or_back_ok result made (Uncovers p) (λ q. rule.SelectTrue p q) (λ q k. (x, at, k (E.Lit (V.Bool true)) x at)) h e
@@ -80,7 +79,7 @@ yes_into p e x c l r is h = (P.Join (both c e) l r, (e, c, l, r, is ∙ ap (P.Se
 
 pub joins_ok : (p : Plan) (e : Expr) (x : Plan) (c : Expr) (l r : Plan) (result : Result Plan NoMemory) → p ≡ P.Select e x → x ≡ P.Join c l r → IfOk result (λ q. q ≡ P.Join (both c e) l r) → IfOk result (Joins p)
 joins_ok p e x c l r (Err w) is h made = made
-joins_ok p e x c l r (Ok q) is h made d o m s at =
+joins_ok p e x c l r (Ok q) is h made = λ d o m s at.
     let t = same_select e d x (P.Join o m s) (sym is ∙ at) in
     let u = same_join c o l m r s (sym h ∙ t.1) in
     made ∙ (λ i. P.Join (both (u.0 i) (t.0 i)) (u.1 i) (u.2 i))

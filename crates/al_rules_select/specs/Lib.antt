@@ -1,3 +1,4 @@
 pub mod Lowers
 pub mod Selects
 pub mod Sound
+pub mod Sets

@@ -1,6 +1,6 @@
 -- The rules of selects are sound: their right sides may stand in the place of their left sides.
 use Rattle.std.specs.Prelude.{◌≡◌, List, true}
-use Rattle.std.proofs.Common.{subst, sym, ap, ◌∙◌, [], ◌++◌}
+use Rattle.std.proofs.Common.{subst, sym, ap, [], ◌++◌}
 use Rattle.al_plan.specs.declared.plan.Plan.{Plan}
 use Rattle.al_plan.specs.declared.plan.Plan.TheVariants as P
 use Rattle.al_plan.specs.declared.expr.Var.{Var}
@@ -13,7 +13,6 @@ use Rattle.al_rule.proofs.SubplanRules as subplans
 use Rattle.al_conj.specs.Conj.{both}
 use Rattle.al_value.specs.declared.value.Value.TheVariants as V
 use Rattle.al_plan.specs.declared.expr.Expr.TheVariants as E
-use Rattle.al_plan.specs.Eval.{holds}
 use Rattle.al_func.specs.Func.{is_true}
 use Rattle.al_plan.proofs.EvalLaws.{eval-Lit}
 use Rattle.al_conj.proofs.ConjLaws.{holds-both, names-both, arities-both, over_both}

@@ -3,6 +3,7 @@
 
 mod below;
 mod lower;
+mod sets;
 mod whole;
 
 pub use below::{
@@ -10,4 +11,5 @@ pub use below::{
     SelectBelowLeftJoin, SelectBelowOrder, SelectBelowProject, SelectBelowSubplan,
     SelectBelowUnnest,
 };
+pub use sets::{SelectSet, SplitSet, split_laws};
 pub use whole::{SelectIntoJoin, SelectTrue, SplitAnd};

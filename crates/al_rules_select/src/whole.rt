@@ -40,7 +40,6 @@ fn selected_twice(
     selected(alloc, first, inner)
 }
 
-#[tactic(auto, using(crate::proofs::WholeLaws::splits_ok))]
 fn split(alloc: Global, p: &Plan) -> Result<Plan, NoMemory>
     ensures { IfOk result (Splits p.now) }
 {
@@ -144,7 +143,6 @@ fn join_of_both(
     Ok(Plan::Join { cond, left, right })
 }
 
-#[tactic(auto, using(crate::proofs::WholeLaws::joins_ok))]
 fn joined(alloc: Global, p: &Plan) -> Result<Plan, NoMemory>
     ensures { IfOk result (Joins p.now) }
 {
