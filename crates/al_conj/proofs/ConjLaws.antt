@@ -1,9 +1,10 @@
 -- A condition is TRUE where all its conjuncts are, and reads what they read.
-use Rattle.std.proofs.Common.{◌≡◌, ◌≢◌, suc, Bool, true, false, ◌&&◌, List, [], ◌∷◌, ◌++◌, map, refl, ap, sym, subst, ◌∙◌, append-nil}
-use Rattle.std.specs.Prelude.{nat_eq, length}
-use Rattle.std.specs.List.{list_all, flat_map, AllByRecursion}
-use Rattle.std.proofs.lemmas.List.Folds.{list_all-append}
+use Rattle.std.proofs.Common.{◌≡◌, ◌≢◌, ◌≤◌, suc, arith, Bool, true, false, ◌&&◌, List, [], ◌∷◌, ◌++◌, map, refl, ap, sym, subst, ◌∙◌, append-nil}
+use Rattle.std.specs.Prelude.{nat_eq, length, ◌||◌}
+use Rattle.std.specs.List.{list_all, list_any, flat_map, AllByRecursion}
+use Rattle.std.proofs.lemmas.List.Folds.{list_all-append, list_any-append}
 use Rattle.std.proofs.lemmas.Grind.{flat_map-append}
+use Rattle.std.proofs.lemmas.List.{length-append}
 use Rattle.al_value.specs.declared.value.Value.{Value}
 use Rattle.al_value.specs.declared.value.Value.TheVariants as V
 use Rattle.al_func.specs.declared.func.Func.{Func}
@@ -190,3 +191,34 @@ pub conj-all_of : (es : List Expr) → es ≢ [] → AllByRecursion IsLeaf es �
 conj-all_of [] some h = absurd (some refl)
 conj-all_of (e ∷ []) some h = conj-leaf e h.0
 conj-all_of (e ∷ d ∷ es) some h = conj-both e (all_of (d ∷ es)) ∙ (λ i. conj-leaf e h.0 i ++ conj-all_of (d ∷ es) (λ k. cc) h.1 i)
+
+-- ---- what the code says of the two sides of an `and`
+
+pub conj_sides : (e a b : Expr) → e ≡ both a b → conj e ≡ conj a ++ conj b
+conj_sides e a b same = ap conj same ∙ conj-both a b
+
+pub has_sides : (has : Expr → Bool) (e a b : Expr) → e ≡ both a b → list_any has (conj e) ≡ (list_any has (conj a) || list_any has (conj b))
+has_sides has e a b same = ap (list_any has) (conj_sides e a b same) ∙ list_any-append has (conj a) (conj b)
+
+or_false : (b : Bool) → (b || false) ≡ b
+or_false true = refl
+or_false false = refl
+
+pub has_leaf : (has : Expr → Bool) (e : Expr) → IsLeaf e → list_any has (conj e) ≡ has e
+has_leaf has e leaf = ap (list_any has) (conj-leaf e leaf) ∙ or_false (has e)
+
+pub conj_some : (e : Expr) → 1 ≤ length (conj e)
+conj_some = by_conj (λ e es. 1 ≤ length es) (λ e leaf. omega arith) (λ a b cs ds h g. rw length-append (omega arith))
+
+pub many_sides : (e a b : Expr) → e ≡ both a b → 2 ≤ length (conj e)
+many_sides e a b same = rw (conj_sides e a b same, length-append) (omega (arith, conj_some a, conj_some b))
+
+pub one_leaf : (e : Expr) → IsLeaf e → 2 ≤ length (conj e) → ⊥
+one_leaf e leaf h = let k : 2 ≤ length (e ∷ []) = subst (λ (es : List Expr). 2 ≤ length es) (conj-leaf e leaf) h in omega arith
+
+pub all_of_step : (es : List Expr) (d whole : Expr) → all_of (es ++ both d whole ∷ []) ≡ all_of (es ++ d ∷ whole ∷ [])
+all_of_step [] d whole = refl
+all_of_step (e ∷ []) d whole = refl
+all_of_step (e ∷ c ∷ es) d whole = ap (both e) (all_of_step (c ∷ es) d whole)
+
+pub ruleset conj_laws = (conj_sides, conj-leaf)

@@ -1,1 +1,4 @@
 pub mod ConjLaws
+pub mod FirstLaws
+pub mod Literals
+pub mod OverLaws

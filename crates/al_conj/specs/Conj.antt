@@ -1,10 +1,11 @@
 -- A condition and its conjuncts.
 use Rattle.std.specs.Prelude.{◌≡◌, Bool, true, false, List, [], ◌∷◌, ◌++◌, map}
-use Rattle.std.specs.List.{AllByRecursion}
+use Rattle.std.specs.List.{list_any}
 use Rattle.al_value.specs.declared.value.Value.TheVariants as V
 use Rattle.al_func.specs.declared.func.Func.{Func}
 use Rattle.al_func.specs.declared.func.Func.TheVariants as F
-use Rattle.al_plan.specs.declared.expr.Expr.{Expr, fold-Expr}
+use Rattle.al_func.specs.Func.{is_true}
+use Rattle.al_plan.specs.declared.expr.Expr.{Expr, fold-Expr, out-Expr}
 use Rattle.al_plan.specs.declared.expr.Expr.TheVariants as E
 use Rattle.al_plan.specs.declared.expr.Expr.TheOpen.{Expr-F}
 use Rattle.al_plan.specs.declared.expr.Expr.TheOpen as L
@@ -41,12 +42,20 @@ all_of [] = E.Lit (V.Bool true)
 all_of (e ∷ []) = e
 all_of (e ∷ d ∷ es) = both e (all_of (d ∷ es))
 
--- no conjunct has the property
-abbrev pub NoneHas : (Expr → Bool) → List Expr → Type 0
-NoneHas has = AllByRecursion (λ e. has e ≡ false)
+-- whether an expression is the literal true
+abbrev pub literal_step : Expr-F Expr → Bool
+literal_step (L.Lit v) = is_true v
+literal_step _ = false
+
+unfoldable pub is_literal_true : Expr → Bool
+is_literal_true e = literal_step (out-Expr e)
 
 -- the first conjunct with the property, and the others
 pub record IsFirst (has : Expr → Bool) (c first : Expr) (before after : List Expr) : Type 0 where
   pub parts : conj c ≡ before ++ first ∷ after
-  pub none_before : NoneHas has before
+  pub none_before : list_any has before ≡ false
   pub has_it : has first ≡ true
+
+-- a condition taken apart: its first conjunct with the property, and the others as one condition
+abbrev pub Splits : (Expr → Bool) → Expr → Expr → Expr → Type 0
+Splits has c first rest = (before : List Expr) × (after : List Expr) × IsFirst has c first before after × (rest ≡ all_of (before ++ after))

@@ -1,25 +1,21 @@
 -- Chains of assign, select, project and unnest.
-use Rattle.std.proofs.Common.{◌≡◌, ◌≢◌, ◌⊎◌, inl, inr, ℕ, Bool, true, false, cond, List, [], ◌∷◌, ◌++◌, map, filter, flat_map, length, refl, ap, sym, subst, ◌∙◌, append_assoc, Option, Some, None, arith}
+use Rattle.std.proofs.Common.{◌≡◌, Bool, true, false, cond, List, [], ◌∷◌, ◌++◌, filter, flat_map, refl, ap, sym, subst, ◌∙◌, None, arith}
 use Rattle.std.specs.List.{All, AllByRecursion, Contains}
 use Rattle.std.specs.List.Sorted.{IsPermutation}
-use Rattle.std.proofs.lemmas.List.{append-nil}
 use Rattle.std.proofs.lemmas.List.Concat.{flat_map-append, flat_map_single}
 use Rattle.std.proofs.lemmas.List.Elements.{All-contains_itself, recursion_from_All}
-use Rattle.std.proofs.lemmas.List.Sorted.{IsPermutation-refl, IsPermutation-trans}
+use Rattle.std.proofs.lemmas.List.Sorted.{IsPermutation-trans}
 use Rattle.al_plan.specs.declared.expr.Var.{Var}
-use Rattle.al_plan.specs.declared.expr.Expr.{Expr}
-use Rattle.al_plan.specs.declared.plan.Generator.{Generator}
 use Rattle.al_plan.specs.declared.plan.Plan.{Plan}
-use Rattle.al_plan.specs.declared.plan.Plan.TheVariants as P
 use Rattle.al_plan.specs.Eval.{Bytes, Env, holds}
-use Rattle.al_plan.specs.Allows.{Sets, Allows, Faults, live, ordered, IsOrderOf, assigned, expanded, cut}
-use Rattle.al_plan.specs.Refines.{Scan, scans, makes, Fit, Fills, IsWithin, Refines, result_of}
+use Rattle.al_plan.specs.Allows.{Sets, Allows, Faults, live, ordered, IsOrderOf, assigned, cut}
+use Rattle.al_plan.specs.Refines.{Scan, scans, Fit, IsWithin, Refines, result_of}
 use Rattle.al_rule.specs.Chains.{Link, assigning, selecting, projecting, unnesting, linked, chain, row_of, through}
 use Rattle.al_plan.proofs.PlanLaws.{allows_Assign, allows_Select, allows_Project, allows_Unnest, from_Assign, from_Select, from_Project, from_Unnest, ordered-Assign, ordered-Select, ordered-Project, ordered-Unnest, scans-Assign, scans-Select, scans-Project, scans-Unnest, faults-Assign, faults-Select, faults-Project, faults-Unnest, result-Assign, result-Select, result-Project, result-Unnest}
 use Rattle.al_plan.proofs.Moves.{IsPermutation-same, IsPermutation-flat_map}
 use Rattle.al_plan.proofs.Orders.{free}
 use Rattle.al_plan.proofs.Within.{within}
-use Rattle.al_plan.proofs.Idle.{RefinesHere, refines_here}
+use Rattle.al_plan.proofs.Idle.{refines_here}
 
 pub order_of_same : (t : Bool) (xs ys : List Env) → ys ≡ xs → IsOrderOf t xs ys
 order_of_same true xs ys e = e

@@ -1,5 +1,5 @@
 -- What rewriting lowers goes down in the whole plan too.
-use Rattle.std.proofs.Common.{◌≡◌, ◌<◌, ◌≤◌, ◌+◌, ℕ, zero, suc, Bool, List, [], ◌∷◌, map, refl, ap, sym, subst, ◌∙◌, arith}
+use Rattle.std.proofs.Common.{◌≡◌, ◌<◌, ◌≤◌, ◌+◌, ℕ, suc, List, [], ◌∷◌, refl, ap, sym, subst, ◌∙◌, arith}
 use Rattle.std.specs.Prelude.{sum}
 use Rattle.al_func.specs.declared.func.Func.TheVariants as F
 use Rattle.al_plan.specs.declared.expr.Expr.{Expr, fold-roll-Expr}
@@ -11,7 +11,7 @@ use Rattle.al_plan.specs.declared.plan.OrderKey.{OrderKey}
 use Rattle.al_plan.specs.declared.plan.Plan.{Plan, map-Plan, roll-Plan, fold-roll-Plan, ind-Plan}
 use Rattle.al_plan.specs.declared.plan.Plan.TheVariants as P
 use Rattle.al_plan.specs.declared.plan.Plan.TheOpen as L
-use Rattle.al_rule.specs.Counts.{Load, load, load_step, total, ands, ands_step, select_ands, select_ands_step}
+use Rattle.al_rule.specs.Counts.{Load, load, load_step, ands, ands_step, select_ands, select_ands_step}
 use Rattle.al_rule.proofs.PlaceLaws.{Around, around, layer, rolls_around, assign, select, project, unnest, subplan, join_left, join_right, left_join_left, left_join_right, group, distinct, union_left, union_right, aggregate, order, limit, check, result, applied_goes_up}
 use Rattle.al_plan.specs.Refines.{Fit}
 use Rattle.al_rule.specs.Places.{Rewriting, Applied}

@@ -1,10 +1,10 @@
 -- Laws of sets of rules that are given as lists.
-use Rattle.std.proofs.Common.{◌≡◌, ◌<◌, ◌⊎◌, inl, inr, ℕ, zero, suc, List, [], ◌∷◌, length, get_or, refl, ap, sym, subst, ◌∙◌, arith}
+use Rattle.std.proofs.Common.{◌<◌, inl, ℕ, zero, suc, List, [], ◌∷◌, length, get_or, arith}
 use Rattle.al_plan.specs.declared.plan.Plan.{Plan}
 use Rattle.al_plan.specs.Refines.{Fit, Replaces}
 use Rattle.al_rule.specs.declared.names.SetName.{SetName}
 use Rattle.al_rule.specs.Places.{Rewriting, Applied}
-use Rattle.al_rule.specs.Rules.{Rules, IsLawful, IsLower}
+use Rattle.al_rule.specs.Rules.{IsLawful}
 use Rattle.al_rule.specs.Entries.{Entry, no_entry, listed}
 
 -- what holds of each rule of a list

@@ -1,5 +1,5 @@
 -- What fits, operator by operator: out of a plan that fits and back into one.
-use Rattle.std.proofs.Common.{◌≡◌, ℕ, Bool, true, false, List, [], ◌∷◌, ◌++◌, map, length, refl, ap, sym, subst, ◌∙◌, Option, Some, None}
+use Rattle.std.proofs.Common.{◌≡◌, ℕ, true, List, [], ◌∷◌, ◌++◌, map, length, refl, sym, subst, None}
 use Rattle.std.specs.List.{AllByRecursion}
 use Rattle.al_plan.specs.declared.expr.Var.{Var}
 use Rattle.al_plan.specs.declared.expr.Expr.{Expr}
@@ -14,7 +14,7 @@ use Rattle.al_plan.specs.Names.{agg_exprs, item_exprs}
 use Rattle.al_plan.specs.Allows.{live}
 use Rattle.al_plan.specs.Refines.{makes, Fit, NoTwice, IsOver, AreLive, AreOver, FitsEach, AtMost64, is_aggregate, result_of}
 use Rattle.al_plan.proofs.Makes.{twice_left, twice_right}
-use Rattle.al_rule.proofs.RuleFit.{FitLayer, fit_out, fit_in}
+use Rattle.al_rule.proofs.RuleFit.{fit_out, fit_in}
 
 -- what a plan with an assign at its root asks of its input
 pub record AssignFits (made : List (Var × Expr)) (p : Plan) : Type 0 where

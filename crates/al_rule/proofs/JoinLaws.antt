@@ -1,6 +1,6 @@
 -- The laws of joins and left joins over the same inputs.
-use Rattle.std.proofs.Common.{◌≡◌, ◌≢◌, ℕ, Bool, true, false, cond, List, [], ◌∷◌, ◌++◌, map, filter, flat_map, refl, ap, sym, subst, ◌∙◌}
-use Rattle.std.specs.List.{All, AllByRecursion}
+use Rattle.std.proofs.Common.{◌≡◌, Bool, cond, List, [], ◌∷◌, ◌++◌, filter, refl, sym, subst}
+use Rattle.std.specs.List.{AllByRecursion}
 use Rattle.std.specs.List.Sorted.{IsPermutation}
 use Rattle.al_plan.specs.declared.expr.Var.{Var}
 use Rattle.al_plan.specs.declared.expr.Expr.{Expr}
@@ -8,8 +8,8 @@ use Rattle.al_plan.specs.declared.plan.Plan.{Plan}
 use Rattle.al_plan.specs.declared.plan.Plan.TheVariants as P
 use Rattle.al_plan.specs.Eval.{Env, holds}
 use Rattle.al_plan.specs.Allows.{Sets, Allows, live, beside, nulls, matches, pairs, left_pairs, or_alone}
-use Rattle.al_rule.specs.Pairs.{SplitsLeft, SplitsRight}
-use Rattle.al_rule.specs.Laws.{OfPairs, SameLists, PairsDecide}
+use Rattle.al_rule.specs.Pairs.{SplitsRight}
+use Rattle.al_rule.specs.Laws.{OfPairs, PairsDecide}
 use Rattle.al_plan.proofs.PlanLaws.{allows_Select, allows_Join, allows_LeftJoin, from_Join, from_LeftJoin}
 use Rattle.al_rule.proofs.Joins.{all_pairs, rows_within, pairs_right, left_pairs_right, join_left_in, join_left_out, join_right_out, left_join_right_out}
 

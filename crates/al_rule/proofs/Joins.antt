@@ -1,21 +1,18 @@
 -- Joins whose conditions are TRUE for the same pairs.
-use Rattle.std.proofs.Common.{◌≡◌, ◌≢◌, ◌⊎◌, inl, inr, ℕ, zero, suc, Bool, true, false, not, cond, ◌&&◌, List, [], ◌∷◌, ◌++◌, map, filter, flat_map, length, refl, ap, sym, subst, ◌∙◌, arith}
-use Rattle.std.specs.Prelude.{if◌then◌else◌}
-use Rattle.std.specs.List.{All, AllByRecursion, Contains}
-use Rattle.std.specs.List.Sorted.{IsPermutation, IsSorted}
+use Rattle.std.proofs.Common.{◌≡◌, Bool, true, false, cond, ◌&&◌, List, [], ◌∷◌, ◌++◌, map, filter, flat_map, refl, ap, sym, subst, ◌∙◌, arith}
+use Rattle.std.specs.List.{AllByRecursion}
+use Rattle.std.specs.List.Sorted.{IsPermutation}
 use Rattle.std.proofs.lemmas.List.Elements.{recursion_from_All, filter-append}
-use Rattle.std.proofs.lemmas.List.Sorted.{IsPermutation-refl, IsPermutation-trans, IsPermutation-sym, IsPermutation-append}
-use Rattle.al_value.specs.declared.value.Value.TheVariants as V
 use Rattle.al_plan.specs.declared.expr.Var.{Var}
 use Rattle.al_plan.specs.declared.expr.Expr.{Expr}
 use Rattle.al_plan.specs.declared.plan.Plan.{Plan}
 use Rattle.al_plan.specs.declared.plan.Plan.TheVariants as P
-use Rattle.al_plan.specs.Eval.{Bytes, Env, holds}
+use Rattle.al_plan.specs.Eval.{Env, holds}
 use Rattle.al_rule.specs.Pairs.{SplitsLeft, SplitsRight, IsBoth}
-use Rattle.al_plan.specs.Allows.{Sets, Allows, live, is_among, beside, nulls, matches, pairs, left_pairs, or_alone}
+use Rattle.al_plan.specs.Allows.{Sets, Allows, live, beside, nulls, matches, pairs, left_pairs, or_alone}
 use Rattle.al_plan.specs.Refines.{IsWithin}
 use Rattle.al_plan.proofs.PlanLaws.{allows_Select, allows_Join, allows_LeftJoin, from_Select, from_Join, from_LeftJoin, live-Select}
-use Rattle.al_plan.proofs.Moves.{IsPermutation-filter, IsPermutation-flat_map, IsPermutation-same}
+use Rattle.al_plan.proofs.Moves.{IsPermutation-filter}
 use Rattle.al_plan.proofs.Orders.{filter-lift}
 use Rattle.al_plan.proofs.Within.{within}
 

@@ -18,3 +18,4 @@ pub mod DriveLaws
 pub mod SelectRules
 pub mod CountLaws
 pub mod EntryLaws
+pub mod SubplanRules

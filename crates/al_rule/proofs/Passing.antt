@@ -1,5 +1,5 @@
 -- A select that goes below an operator, or comes up again.
-use Rattle.std.proofs.Common.{◌≡◌, ◌⊎◌, ℕ, Bool, true, false, List, [], ◌∷◌, ◌++◌, map, refl, ap, sym, subst, ◌∙◌, Option, Some, None}
+use Rattle.std.proofs.Common.{◌≡◌, Bool, List, [], sym, None}
 use Rattle.al_plan.specs.declared.expr.Var.{Var}
 use Rattle.al_plan.specs.declared.expr.Expr.{Expr}
 use Rattle.al_plan.specs.declared.plan.Generator.{Generator}
@@ -8,7 +8,7 @@ use Rattle.al_plan.specs.declared.plan.Plan.{Plan}
 use Rattle.al_plan.specs.declared.plan.Plan.TheVariants as P
 use Rattle.al_plan.specs.Eval.{Env}
 use Rattle.al_plan.specs.Allows.{Sets, Allows, live}
-use Rattle.al_plan.specs.Refines.{makes, Fit, IsOver, Refines, Replaces, result_of}
+use Rattle.al_plan.specs.Refines.{makes, Fit, IsOver, Replaces, result_of}
 use Rattle.al_plan.proofs.PlanLaws.{live-Select, makes-Select, result-Assign, result-Select, result-Project, result-Unnest, result-Subplan, result-Join, result-LeftJoin, result-Distinct, result-Order}
 use Rattle.al_rule.proofs.Alike.{Alike, alike-refl, alike-sym, alike-trans, alike_select, alike_replaces, alike-Assign, alike-Project, alike-Unnest, alike-Subplan, alike-Join, alike-LeftJoin, alike-Distinct, alike-Order}
 use Rattle.al_rule.proofs.FitLaws.{in_Select, out_Select, out_Assign, out_Project, out_Unnest, out_Subplan, out_Join, out_LeftJoin, out_Distinct, out_Order, over_Assign, over_Project, over_Unnest, over_Subplan, over_Join_left, over_Join_right, over_LeftJoin_left, over_LeftJoin_right, over_Distinct, over_Order}

@@ -1,8 +1,7 @@
 -- An expression reads its own variables alone.
-use Rattle.std.proofs.Common.{◌≡◌, ℕ, List, [], ◌∷◌, ◌++◌, map, refl, ap, sym, subst, ◌∙◌}
+use Rattle.std.proofs.Common.{◌≡◌, List, [], ◌∷◌, ◌++◌, map, refl, ap, sym, subst, ◌∙◌}
 use Rattle.std.specs.List.{AllByRecursion, flat_map}
 use Rattle.al_value.specs.declared.value.Value.{Value}
-use Rattle.al_func.specs.declared.func.Func.{Func}
 use Rattle.al_plan.specs.declared.expr.Expr.{Expr, roll-Expr, map-Expr, fold-roll-Expr, ind-Expr}
 use Rattle.al_plan.specs.declared.expr.Expr.TheOpen as L
 use Rattle.al_plan.specs.Eval.{Bytes, Env, eval, eval_step}

@@ -1,22 +1,18 @@
 -- What a rule needs to show that its right side fits.
-use Rattle.std.proofs.Common.{◌≡◌, ◌≢◌, ◌⊎◌, inl, inr, ℕ, Bool, true, false, cond, ◌&&◌, List, [], ◌∷◌, ◌++◌, map, filter, length, refl, ap, sym, subst, ◌∙◌, Option, Some, None}
-use Rattle.std.specs.Prelude.{if◌then◌else◌, ◌||◌, nat_eq}
-use Rattle.std.specs.Cmp.Lexicographic.{pointwise, same_text}
-use Rattle.std.specs.List.{All, AllByRecursion, Contains, flat_map, list_all}
+use Rattle.std.proofs.Common.{◌≡◌, Bool, true, false, List, [], ◌∷◌, ◌++◌, ap, sym, subst, ◌∙◌}
+use Rattle.std.specs.Prelude.{if◌then◌else◌, ◌||◌}
+use Rattle.std.specs.List.{AllByRecursion}
 use Rattle.al_value.specs.declared.value.Value.TheVariants as V
 use Rattle.al_plan.specs.declared.expr.Var.{Var}
-use Rattle.al_func.specs.declared.func.Func.{Func}
-use Rattle.al_plan.specs.declared.expr.Expr.{Expr, roll-Expr, map-Expr, fold-roll-Expr}
-use Rattle.al_plan.specs.declared.expr.Expr.TheVariants as E
-use Rattle.al_plan.specs.declared.expr.Expr.TheOpen as LE
+use Rattle.al_plan.specs.declared.expr.Expr.{Expr}
 use Rattle.al_plan.specs.declared.plan.Plan.{Plan, map-Plan, roll-Plan}
 use Rattle.al_plan.specs.declared.plan.Plan.TheVariants as P
 use Rattle.al_plan.specs.declared.plan.Plan.TheOpen as L
-use Rattle.al_plan.specs.Eval.{Bytes, Env, eval, holds}
+use Rattle.al_plan.specs.Eval.{Bytes, Env, holds}
 use Rattle.al_plan.specs.Names.{names}
 use Rattle.al_func.specs.Func.{is_true}
-use Rattle.al_plan.specs.Allows.{Sets, live, is_among, cut, beside}
-use Rattle.al_plan.specs.Refines.{makes, makes_step, Fit, NoTwice, IsOver, AreAmong, AreLive, FitsEach, Narrow}
+use Rattle.al_plan.specs.Allows.{is_among, cut, beside}
+use Rattle.al_plan.specs.Refines.{makes, makes_step, Fit, NoTwice, AreAmong, AreLive}
 use Rattle.al_rule.proofs.ReadLaws.{eval-names}
 use Rattle.al_plan.proofs.Makes.{among_of}
 use Rattle.al_plan.proofs.PlanLaws.{EachLayer, each-roll, NarrowLayer, narrow-roll, makes-roll}

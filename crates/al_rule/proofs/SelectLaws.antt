@@ -1,21 +1,20 @@
 -- The laws of selects over orders and distincts, both ways.
-use Rattle.std.proofs.Common.{◌≡◌, ◌≢◌, ℕ, Bool, true, false, cond, List, [], ◌∷◌, ◌++◌, filter, refl, ap, sym, subst, ◌∙◌}
-use Rattle.std.specs.List.{All, AllByRecursion, AllPairs, Contains}
+use Rattle.std.proofs.Common.{◌≡◌, ◌≢◌, Bool, true, false, cond, List, [], ◌∷◌, filter, refl, sym, subst}
+use Rattle.std.specs.List.{All, AllByRecursion, Contains}
 use Rattle.std.proofs.lemmas.List.Elements.{All-from_recursion, recursion_from_All, All-weaker, All-contains, All-filter, filter_passes}
 use Rattle.al_plan.specs.declared.expr.Var.{Var}
 use Rattle.al_plan.specs.declared.expr.Expr.{Expr}
-use Rattle.al_plan.specs.declared.plan.OrderKey.{OrderKey}
 use Rattle.al_plan.specs.declared.plan.Plan.{Plan}
 use Rattle.al_plan.specs.declared.plan.Plan.TheVariants as P
 use Rattle.al_plan.specs.Eval.{Env, holds}
 use Rattle.al_plan.specs.Allows.{Sets, Allows, live, IsDistinctOf}
-use Rattle.al_plan.specs.Refines.{Fit, IsOver, Refines, Replaces}
+use Rattle.al_plan.specs.Refines.{IsOver}
 use Rattle.al_rule.specs.Laws.{SelectPasses, SelectPassesOrder, SelectPassesDistinct}
-use Rattle.al_plan.proofs.PlanLaws.{allows_Select, allows_Distinct, from_Select, from_Distinct, live-Select, live-Order, live-Distinct}
+use Rattle.al_plan.proofs.PlanLaws.{allows_Select, allows_Distinct, from_Select, from_Distinct, live-Order, live-Distinct}
 use Rattle.al_plan.proofs.Moves.{Apart, apart_from_pairs, pairs_from_apart}
 use Rattle.al_rule.proofs.SelectOrder.{select_order_in, select_order_out}
 use Rattle.al_rule.proofs.SelectDistinct.{kept_by, select_distinct_out}
-use Rattle.al_rule.proofs.FitLaws.{out_Select, out_Order, out_Distinct}
+use Rattle.al_rule.proofs.FitLaws.{out_Select}
 use Rattle.al_rule.proofs.Passing.{Operator, AllowsMore, operator_Order, operator_Distinct, select_goes_below, select_comes_up}
 
 both_give : (A C : Env → Type 0) (xs : List Env) → AllByRecursion (λ x. A x → C x) xs → AllByRecursion A xs → AllByRecursion C xs

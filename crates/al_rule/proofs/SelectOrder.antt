@@ -1,26 +1,21 @@
 -- A select passes an order.
-use Rattle.std.proofs.Common.{◌≡◌, ◌≢◌, ℕ, zero, suc, ◌+◌, ◌<◌, ◌≤◌, Bool, true, false, not, cond, List, [], ◌∷◌, ◌++◌, map, filter, length, get_or, refl, ap, sym, subst, ◌∙◌, arith, append-nil, add-one}
-use Rattle.std.specs.List.{All, AllByRecursion, Contains}
+use Rattle.std.proofs.Common.{◌≡◌, zero, suc, Bool, true, false, not, cond, List, [], ◌∷◌, ◌++◌, filter, refl, ap, sym, subst, ◌∙◌, arith, add-one}
+use Rattle.std.specs.List.{AllByRecursion}
 use Rattle.std.specs.List.Sorted.{IsPermutation, IsSorted, IsSortedBy}
-use Rattle.std.specs.Ordering.{is_lt, ordering_reverse}
-use Rattle.std.specs.declared.cmp.Ordering.{Ordering}
-use Rattle.std.specs.declared.cmp.Ordering.TheVariants.{Less, Equal, Greater}
-use Rattle.std.specs.Cmp.{IsTotalOrder}
+use Rattle.std.specs.Ordering.{is_lt}
 use Rattle.std.proofs.lemmas.List.Kept.{IsSortedBy-filter}
-use Rattle.std.proofs.lemmas.List.Elements.{All-contains_itself, recursion_from_All, filter_passes}
-use Rattle.std.proofs.lemmas.List.Sorted.{IsPermutation-refl, IsPermutation-trans, IsPermutation-cons, IsPermutation-sym, IsPermutation-append_left, IsPermutation-append_comm, IsPermutation-middle, IsPermutation-filter_both, All-permutation, ranks_by}
+use Rattle.std.proofs.lemmas.List.Elements.{recursion_from_All, filter_passes}
+use Rattle.std.proofs.lemmas.List.Sorted.{IsPermutation-refl, IsPermutation-trans, IsPermutation-cons, IsPermutation-append_left, IsPermutation-append_comm, IsPermutation-filter_both, All-permutation, ranks_by}
 use Rattle.al_plan.specs.declared.expr.Var.{Var}
 use Rattle.al_plan.specs.declared.expr.Expr.{Expr}
 use Rattle.al_plan.specs.declared.plan.OrderKey.{OrderKey}
 use Rattle.al_plan.specs.declared.plan.Plan.{Plan}
 use Rattle.al_plan.specs.declared.plan.Plan.TheVariants as P
-use Rattle.al_plan.specs.Eval.{Bytes, Env, holds}
-use Rattle.al_plan.specs.Allows.{Sets, Allows, Faults, live, ordered, keys_cmp}
-use Rattle.al_plan.specs.Refines.{Scan, scans, makes, Fit, Refines, result_of}
-use Rattle.al_plan.proofs.PlanLaws.{allows_Select, allows_Order, from_Select, from_Order, ordered-Select, ordered-Order, scans-Select, scans-Order, faults-Select, faults-Order, result-Select, result-Order, live-Select, live-Order}
-use Rattle.al_plan.proofs.Moves.{IsPermutation-filter, IsPermutation-turn, IsPermutation-same, filter_all}
+use Rattle.al_plan.specs.Eval.{Env, holds}
+use Rattle.al_plan.specs.Allows.{Sets, Allows, keys_cmp}
+use Rattle.al_plan.proofs.PlanLaws.{allows_Select, allows_Order, from_Select, from_Order}
+use Rattle.al_plan.proofs.Moves.{IsPermutation-filter, IsPermutation-turn, filter_all}
 use Rattle.al_plan.proofs.RowLaws.{keys_cmp_total}
-use Rattle.al_plan.proofs.Idle.{RefinesHere, refines_here}
 
 -- each element is no lower than the one before it
 abbrev pub Up : {X : Type 0} → (X → X → Bool) → List X → Type 0

@@ -1,10 +1,9 @@
 -- Selects that go, go below an operator or into a join.
-use Rattle.std.proofs.Common.{◌≡◌, ◌≢◌, ◌⊎◌, ◌||◌, ◌&&◌, ℕ, Bool, true, false, cond, List, [], ◌∷◌, ◌++◌, map, filter, flat_map, refl, ap, sym, subst, ◌∙◌, Option, Some, None}
+use Rattle.std.proofs.Common.{◌≡◌, ◌||◌, ◌&&◌, Bool, true, false, cond, List, [], ◌∷◌, ◌++◌, map, filter, flat_map, refl, ap, sym, subst, ◌∙◌}
 use Rattle.std.specs.Prelude.{if◌then◌else◌}
-use Rattle.std.specs.List.{All, AllByRecursion}
+use Rattle.std.specs.List.{AllByRecursion}
 use Rattle.std.specs.List.Sorted.{IsPermutation}
 use Rattle.al_value.specs.declared.value.Value.{Value}
-use Rattle.al_value.specs.declared.value.Value.TheVariants as V
 use Rattle.al_func.specs.Func.{is_true}
 use Rattle.al_plan.specs.declared.expr.Var.{Var}
 use Rattle.al_plan.specs.declared.expr.Expr.{Expr}
@@ -13,14 +12,14 @@ use Rattle.al_plan.specs.declared.plan.OrderKey.{OrderKey}
 use Rattle.al_plan.specs.declared.plan.Plan.{Plan}
 use Rattle.al_plan.specs.declared.plan.Plan.TheVariants as P
 use Rattle.al_plan.specs.Eval.{Bytes, Env, bind, eval, holds}
-use Rattle.al_plan.specs.Names.{names}
+use Rattle.al_plan.specs.Names.{names, has_arities}
 use Rattle.al_plan.specs.Calls.{items}
-use Rattle.al_plan.specs.Allows.{Sets, Allows, live, is_among, cut, beside, with_new, assigned, expanded, nulls, matches, left_pairs, or_alone}
-use Rattle.al_plan.specs.Refines.{Fit, IsOver, AreAmong, Replaces, IsWithin, result_of}
-use Rattle.al_rule.specs.Chains.{assigning, selecting, projecting, unnesting, chain, through, row_of}
-use Rattle.al_rule.specs.Pairs.{IsBoth, SplitsLeft, SplitsRight}
+use Rattle.al_plan.specs.Allows.{live, is_among, cut, beside, with_new, assigned, expanded, nulls, matches, left_pairs, or_alone}
+use Rattle.al_plan.specs.Refines.{Fit, IsOver, AreAmong, Replaces, IsWithin}
+use Rattle.al_rule.specs.Chains.{assigning, selecting, projecting, unnesting, row_of}
+use Rattle.al_rule.specs.Pairs.{IsBoth, SplitsLeft}
 use Rattle.al_rule.specs.Reads.{ReadsNone}
-use Rattle.al_plan.proofs.PlanLaws.{allows_Select, allows_LeftJoin, from_Select, from_LeftJoin, live-Select, live-Assign, live-Project, live-Unnest, live-Order, live-Distinct, live-Join, live-LeftJoin}
+use Rattle.al_plan.proofs.PlanLaws.{allows_Select, allows_LeftJoin, from_Select, from_LeftJoin, live-Select, live-Assign, live-Project, live-Unnest, live-Order, live-Distinct}
 use Rattle.al_plan.proofs.Moves.{filter_all}
 use Rattle.al_plan.proofs.Orders.{filter-lift}
 use Rattle.al_plan.proofs.Within.{is_among-append}
@@ -28,11 +27,11 @@ use Rattle.al_plan.proofs.Lives.{live_apart, turned}
 use Rattle.al_plan.proofs.Makes.{no_more-same}
 use Rattle.std.proofs.lemmas.List.Elements.{filter-append}
 use Rattle.al_rule.proofs.ReadLaws.{eval-names}
-use Rattle.al_rule.proofs.RuleFit.{holds-cut, holds-beside, among_among, over_front}
+use Rattle.al_rule.proofs.RuleFit.{holds-cut, holds-beside, among_among}
 use Rattle.al_rule.proofs.Chains.{chains_refine}
-use Rattle.al_rule.proofs.Alike.{Alike, alike-sym, alike-trans, alike-refl, alike_select, alike_replaces, alike-Select, alike-Join, same_lists}
-use Rattle.al_rule.proofs.FitLaws.{in_Select, out_Select, out_Assign, out_Project, out_Unnest, out_Order, out_Distinct, in_Join, out_Join, out_LeftJoin}
-use Rattle.al_rule.proofs.Passing.{Operator, operator_Assign, operator_Project, operator_Unnest, operator_Order, operator_Distinct, operator_Join_left, operator_Join_right, operator_LeftJoin_left, lowered_fits, lowered_alike, select_goes_below}
+use Rattle.al_rule.proofs.Alike.{alike-sym, alike-trans, alike-refl, alike_select, alike_replaces, alike-Join, same_lists}
+use Rattle.al_rule.proofs.FitLaws.{in_Select, out_Select, out_Assign, out_Project, out_Unnest, in_Join, out_Join}
+use Rattle.al_rule.proofs.Passing.{operator_Assign, operator_Project, operator_Unnest, operator_Order, operator_Distinct, operator_Join_left, operator_Join_right, operator_LeftJoin_left, lowered_fits, lowered_alike, select_goes_below}
 use Rattle.al_rule.proofs.SelectOrder.{select_order_out}
 use Rattle.al_rule.proofs.SelectDistinct.{select_distinct_out}
 use Rattle.al_rule.proofs.Joins.{join_left_out, join_right_out, select_join_out, flat_cond}
@@ -92,9 +91,9 @@ split_and d a b p both over_a over_b fit =
     let outer = in_Select a (P.Select b p) (record { input = inner; root = (alike_select b p top.root).root ∙ top.root; over = subst (λ (vs : List Var). IsOver vs a) (sym (live-Select b p [])) over_a }) in
     let like = alike-trans (P.Select a (P.Select b p)) (P.Select b p) p (alike_select a (P.Select b p) ((alike_select b p top.root).root ∙ top.root)) (alike_select b p top.root) in
     alike_replaces (P.Select a (P.Select b p)) (P.Select d p) fit outer (alike-trans (P.Select a (P.Select b p)) p (P.Select d p) like (alike-sym (P.Select d p) p (alike_select d p top.root))) (λ s sets rows fills k.
-        let one = from_Select a (P.Select b p) s sets [] [] rows k in
-        let two = from_Select b p s sets [] [] one.0 one.1 in
-        allows_Select d p s sets [] [] rows (two.0, two.1, one.2 ∙ ap (filter (holds a)) two.2 ∙ filter_twice d a b both two.0))
+    let one = from_Select a (P.Select b p) s sets [] [] rows k in
+    let two = from_Select b p s sets [] [] one.0 one.1 in
+    allows_Select d p s sets [] [] rows (two.0, two.1, one.2 ∙ ap (filter (holds a)) two.2 ∙ filter_twice d a b both two.0))
 
 -- ---- below operators that work on each row alone
 
@@ -196,7 +195,7 @@ below_join_right d e c l r both reads fit =
     let inputs = out_Join c l r (out_Select e (P.Join c l r) fit).input in
     let none = none_of (live l []) (live r []) (turned (live l []) (live r []) (live_apart l r inputs.left inputs.right inputs.once)) (names e) reads in
     select_goes_below (λ x. P.Join c l x) (operator_Join_right c l) e r fit (record { reads = reads; arities = (out_Select e (P.Join c l r) fit).over.arities })
-        (λ b sets rows h. select_join_out d c e both l r b sets [] [] rows (join_right_out d e c l r (λ a b w v. both (beside (live l []) a b) ∙ and_comm (holds c (beside (live l []) a b)) (holds e (beside (live l []) a b)) ∙ ap (λ t. t && holds c (beside (live l []) a b)) (holds-past e (live l []) a b none)) b sets rows h))
+    (λ b sets rows h. select_join_out d c e both l r b sets [] [] rows (join_right_out d e c l r (λ a b w v. both (beside (live l []) a b) ∙ and_comm (holds c (beside (live l []) a b)) (holds e (beside (live l []) a b)) ∙ ap (λ t. t && holds c (beside (live l []) a b)) (holds-past e (live l []) a b none)) b sets rows h))
 
 pub into_join : (d e c : Expr) (l r : Plan) → IsBoth d c e → IsOver (live l [] ++ live r []) d → Fit (P.Select e (P.Join c l r)) → Replaces (P.Join d l r) (P.Select e (P.Join c l r))
 into_join d e c l r both over fit =
@@ -249,3 +248,10 @@ pub both_parts : (a b : Bool) → (a && b) ≡ true → (a ≡ true) × (b ≡ t
 both_parts true b h = (refl, h)
 both_parts false true h = (h, refl)
 both_parts false false h = (h, h)
+
+-- an expression that names what two do, and has its arities where they have theirs: where it is over some variables, so are they
+pub both_over : (d : Expr) (vars : List Var) (a b : Expr) → names d ≡ names a ++ names b → has_arities d ≡ (has_arities a && has_arities b) → IsOver vars d → IsOver vars a × IsOver vars b
+both_over d vars a b named calls over =
+    let reads = among_parts vars (names a) (names b) (subst (AreAmong vars) named over.reads) in
+    let arities = both_parts (has_arities a) (has_arities b) (sym calls ∙ over.arities) in
+    (record { reads = reads.0; arities = arities.0 }, record { reads = reads.1; arities = arities.1 })

@@ -1,5 +1,5 @@
 -- Numbers of a plan outside its nested plans that rewriting lowers.
-use Rattle.std.specs.Prelude.{ℕ, suc, ◌+◌, List, sum}
+use Rattle.std.specs.Prelude.{ℕ, suc, ◌+◌, sum}
 use Rattle.al_func.specs.declared.func.Func.TheVariants as F
 use Rattle.al_plan.specs.declared.expr.Expr.{Expr, fold-Expr}
 use Rattle.al_plan.specs.declared.expr.Expr.TheOpen.{Expr-F}

@@ -1,5 +1,5 @@
 -- Sets of rules as lists.
-use Rattle.std.specs.Prelude.{ℕ, List, length, get_or}
+use Rattle.std.specs.Prelude.{List, length, get_or}
 use Rattle.al_rule.specs.declared.names.SetName.{SetName}
 use Rattle.al_rule.specs.declared.names.RuleName.{RuleName}
 use Rattle.al_rule.specs.declared.names.RuleName.TheVariants.{SplitAnd}

@@ -1,5 +1,5 @@
 -- Laws of plans of which many rules are instances.
-use Rattle.std.specs.Prelude.{◌≡◌, ◌⊎◌, Bool, List, [], Option, None}
+use Rattle.std.specs.Prelude.{◌≡◌, Bool, List, [], None}
 use Rattle.std.specs.List.Sorted.{IsPermutation}
 use Rattle.al_plan.specs.declared.expr.Expr.{Expr}
 use Rattle.al_plan.specs.declared.plan.OrderKey.{OrderKey}

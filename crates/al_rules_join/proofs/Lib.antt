@@ -1,0 +1,4 @@
+pub mod ConditionLaws
+pub mod PairLaws
+pub mod NullLaws
+pub mod Sound

@@ -1,0 +1,2 @@
+pub mod JoinRules
+pub mod JoinSet

@@ -1,0 +1,15 @@
+use Rattle.std.proofs.Common.{subst}
+use Rattle.al_plan.specs.declared.plan.Plan.{Plan}
+use Rattle.al_plan.specs.Names.{names}
+use Rattle.al_plan.specs.Allows.{live}
+use Rattle.al_plan.specs.Refines.{AreAmong}
+use Rattle.std.proofs.Common.{[]}
+use Rattle.al_rule.specs.Rules.{Decides}
+use Rattle.al_rules_select.proofs.SelectLaws.{other_join_right, yes_join_right}
+use Rattle.al_rules_select.proofs.below.SelectBelowJoinRightRule.matches.Goals as goal
+
+pub returns-in_default-over : goal.returns-in_default-over
+returns-in_default-over c = other_join_right c.args.p.now _ c.in-Some.over.now c.in-Some.ensures (λ cond l r h. c.in_default-over.not-Join cond l r h)
+
+pub returns-in-Join : goal.returns-in-Join
+returns-in-Join c = yes_join_right c.args.p.now c.in-Some.e.now c.in-Some.over.now c.in-Join.cond c.in-Join.left c.in-Join.right c.reads_live.result c.in-Some.ensures c.in-Join.is (subst (λ (z : Plan). Decides c.reads_live.result (AreAmong (live z []) (names c.in-Some.e.now))) c.get.ensures c.reads_live.ensures.decides)

@@ -1,0 +1,4 @@
+pub mod Lowers
+pub mod Selects
+pub mod Sound
+pub mod Sets
