@@ -1,4 +1,2 @@
 pub mod ConditionLaws
-pub mod PairLaws
-pub mod NullLaws
-pub mod Sound
+pub mod Matching

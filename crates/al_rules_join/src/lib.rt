@@ -2,5 +2,11 @@
 #![tactic(auto)]
 
 mod condition;
+mod drop_true;
+mod left_join;
 mod part;
+mod push;
 
+pub use drop_true::DropTrue;
+pub use left_join::LeftJoinToJoin;
+pub use push::{JoinCondLeft, JoinCondRight, LeftJoinCondRight};

@@ -1,6 +1,7 @@
 -- What each rule makes may stand in the place of what it was made of.
 use Rattle.std.proofs.Common.{◌≡◌, ◌⊎◌, inl, inr, Bool, true, false, not, ◌&&◌, List, [], ◌∷◌, ◌++◌, length, refl, ap, sym, subst, ◌∙◌, None}
 use Rattle.std.specs.List.{list_all, list_any}
+use Rattle.al_plan.proofs.Bools.{no}
 use Rattle.al_plan.specs.declared.expr.Var.{Var}
 use Rattle.al_plan.specs.declared.expr.Expr.{Expr}
 use Rattle.al_plan.specs.declared.plan.Plan.{Plan}
@@ -23,12 +24,12 @@ use Rattle.al_rule.proofs.FitLaws.{in_Select, out_Select, in_Join, out_Join, in_
 use Rattle.al_rule.proofs.JoinLaws.{pairs_decide}
 use Rattle.al_rule.proofs.RuleFit.{holds-beside}
 use Rattle.al_rules_join.specs.JoinRules.{reads_only, has_variable, is_of, reads_of, compares, left_join_to_join, join_cond_left, join_cond_right, left_join_cond_right, drop_true}
-use Rattle.al_rules_join.proofs.NullLaws.{compares_fails}
-use Rattle.al_rules_join.proofs.PairLaws.{among_all, holds-beside_right, left_join_out}
+use Rattle.al_rules_join.specs.NullLaws.{compares_fails}
+use Rattle.al_rules_join.specs.PairLaws.{among_all, holds-beside_right, left_join_out}
 
 and_right : (a b : Bool) → (a && b) ≡ true → b ≡ true
 and_right true b h = h
-and_right false b h = absurd cc
+and_right false b h = absurd (no (sym h))
 
 reads_by : (p : Plan) (e : Expr) (b : Bool) → (b && reads_only p e) ≡ true → AreAmong (live p []) (names e)
 reads_by p e b h = among_all (live p []) (names e) (and_right b (reads_only p e) h)
