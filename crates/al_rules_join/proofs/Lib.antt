@@ -1,2 +1,3 @@
 pub mod ConditionLaws
 pub mod Matching
+pub mod SetLaws

@@ -1,5 +1,5 @@
 -- When a rule matches, and what it makes then.
-use Rattle.std.proofs.Common.{◌≡◌, ◌≢◌, ◌⊎◌, ◌≤◌, inl, inr, Bool, true, false, not, ◌&&◌, List, [], ◌∷◌, ◌++◌, length, refl, ap, sym, subst, ◌∙◌, Option, Some, None, Result, Ok, Err, IfOk, MatchOption}
+use Rattle.std.proofs.Common.{◌≡◌, ◌≤◌, inl, inr, Bool, true, false, ◌&&◌, List, [], ◌∷◌, ◌++◌, length, refl, ap, sym, subst, ◌∙◌, Option, Some, None, Result, Ok, Err, IfOk, MatchOption}
 use Rattle.std.specs.Prelude.{◌||◌}
 use Rattle.std.specs.List.{list_any}
 use Rattle.std.proofs.lemmas.List.Folds.{list_any-append}
@@ -9,7 +9,7 @@ use Rattle.al_plan.specs.declared.plan.Plan.{Plan, out-Plan}
 use Rattle.al_plan.specs.declared.plan.Plan.TheVariants as P
 use Rattle.al_plan.specs.declared.plan.Plan.TheOpen as L
 use Rattle.al_plan.specs.Refines.{Fit, Replaces}
-use Rattle.al_conj.specs.Conj.{both, conj, all_of, is_literal_true, IsFirst, Splits}
+use Rattle.al_conj.specs.Conj.{both, conj, all_of, is_literal_true, Splits}
 use Rattle.al_rule.specs.Places.{Rewriting}
 use Rattle.al_rule.specs.Rules.{Matches, Decides, HandsBack}
 use Rattle.al_rule.proofs.Operators.{out-Join, out-LeftJoin, out-Select}

@@ -6,7 +6,6 @@ use Rattle.al_func.specs.declared.func.Func.{Func}
 use Rattle.al_plan.specs.declared.expr.Var.{Var}
 use Rattle.al_plan.specs.declared.expr.Expr.{Expr}
 use Rattle.al_plan.specs.declared.expr.Expr.TheVariants as E
-use Rattle.al_plan.specs.declared.expr.Expr.TheOpen as L
 use Rattle.al_plan.specs.declared.plan.Plan.{Plan}
 use Rattle.al_plan.specs.Allows.{live, is_among}
 use Rattle.al_conj.proofs.Literals.{out-Var, out-Lit, out-Call}

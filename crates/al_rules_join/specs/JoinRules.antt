@@ -1,5 +1,5 @@
 -- What each rule of the set rewrites: from, condition, to.
-use Rattle.std.specs.Prelude.{◌≡◌, ◌≤◌, ◌⊎◌, Bool, true, false, not, ◌&&◌, List, [], length, Option, Some, None, Result, Ok, Err}
+use Rattle.std.specs.Prelude.{◌≡◌, ◌≤◌, ◌⊎◌, Bool, true, false, not, ◌&&◌, [], length, Option, Some, None, Result, Ok, Err}
 use Rattle.std.specs.List.{list_all, list_any}
 use Rattle.al_value.specs.declared.fault.NoMemory.{NoMemory}
 use Rattle.al_func.specs.declared.func.Func.{Func}

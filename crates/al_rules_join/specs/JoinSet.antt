@@ -1,5 +1,5 @@
 -- The set of these rules, and what falls where one of them is applied.
-use Rattle.std.specs.Prelude.{◌≡◌, ◌+◌, ◌*◌, ℕ, zero, suc, Bool, true, false, not, List, [], ◌∷◌, filter, length, if◌then◌else◌}
+use Rattle.std.specs.Prelude.{◌+◌, ◌*◌, ℕ, zero, suc, Bool, true, false, not, List, [], ◌∷◌, filter, length, if◌then◌else◌}
 use Rattle.al_plan.specs.declared.expr.Expr.{Expr}
 use Rattle.al_plan.specs.declared.plan.Plan.{Plan, fold-Plan}
 use Rattle.al_plan.specs.declared.plan.Plan.TheOpen.{Plan-F}

@@ -1,23 +1,20 @@
 -- A comparison with a NULL is not TRUE.
-use Rattle.std.proofs.Common.{◌≡◌, Bool, true, false, cond, ◌&&◌, List, [], ◌∷◌, map, length, refl, ap, sym, ◌∙◌, arith}
-use Rattle.std.specs.Prelude.{if◌then◌else◌, ◌||◌, nat_eq}
-use Rattle.std.specs.List.{list_all, list_any}
+use Rattle.std.proofs.Common.{◌≡◌, Bool, true, false, ◌&&◌, List, [], ◌∷◌, map, refl, ap, sym, ◌∙◌}
+use Rattle.std.specs.Prelude.{if◌then◌else◌, ◌||◌}
+use Rattle.std.specs.List.{list_any}
 use Rattle.al_value.specs.declared.value.Value.{Value}
 use Rattle.al_value.specs.declared.value.Value.TheVariants as V
 use Rattle.al_func.specs.declared.func.Func.{Func}
 use Rattle.al_func.specs.declared.func.Func.TheVariants as F
-use Rattle.al_func.specs.Func.{apply, arity, is_true, equal, less, at_most}
+use Rattle.al_func.specs.Func.{apply, is_true, equal, less, at_most}
 use Rattle.al_plan.proofs.Bools.{no}
 use Rattle.al_plan.specs.declared.expr.Var.{Var}
 use Rattle.al_plan.specs.declared.expr.Expr.{Expr}
-use Rattle.al_plan.specs.declared.expr.Expr.TheVariants as E
 use Rattle.al_plan.specs.declared.plan.Plan.{Plan}
 use Rattle.al_plan.specs.Eval.{Env, eval, holds}
-use Rattle.al_plan.specs.Names.{has_arities}
-use Rattle.al_plan.specs.Allows.{live, is_among, beside, nulls}
+use Rattle.al_plan.specs.Allows.{live, beside, nulls}
 use Rattle.al_plan.proofs.EvalLaws.{eval-Var, eval-Call}
 use Rattle.al_plan.proofs.Makes.{Disjoint}
-use Rattle.al_conj.proofs.ConjLaws.{arities-Call}
 use Rattle.al_conj.proofs.Literals.{expr_cases}
 use Rattle.al_rules_join.specs.JoinRules.{compares, is_comparison, is_variable_of}
 use Rattle.al_rules_join.specs.ConditionLaws.{variable-Var, variable-Lit, variable-Call, compares-Var, compares-Lit, compares-Call}
@@ -88,6 +85,6 @@ compares_fails p e xs compared apart a = expr_cases (λ e. compares p e ≡ true
     (λ v h. absurd (no (sym (sym (compares-Var p v) ∙ h))))
     (λ v h. absurd (no (sym (sym (compares-Lit p v) ∙ h))))
     (λ f args h.
-      let parts = both_true (is_comparison f) (list_any (is_variable_of p) args) (sym (compares-Call p f args) ∙ h) in
-      ap is_true (eval-Call f args (beside xs a nulls)) ∙ call_fails (is_variable_of p) (beside xs a nulls) (variable_null p xs apart a) f args parts.0 parts.1)
+    let parts = both_true (is_comparison f) (list_any (is_variable_of p) args) (sym (compares-Call p f args) ∙ h) in
+    ap is_true (eval-Call f args (beside xs a nulls)) ∙ call_fails (is_variable_of p) (beside xs a nulls) (variable_null p xs apart a) f args parts.0 parts.1)
     e compared

@@ -1,4 +1,4 @@
-use Rattle.std.proofs.Common.{◌≡◌, subst, Option}
+use Rattle.std.proofs.Common.{subst, Option}
 use Rattle.al_plan.specs.declared.expr.Expr.{Expr}
 use Rattle.al_rules_join.specs.JoinRules.{IsWithoutTrue}
 use Rattle.al_rules_join.proofs.Matching.{other_drop_true_join, other_drop_true_left_join}

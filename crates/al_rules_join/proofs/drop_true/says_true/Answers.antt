@@ -1,4 +1,4 @@
-use Rattle.std.proofs.Common.{◌≡◌, true, sym}
+use Rattle.std.proofs.Common.{true}
 use Rattle.al_rules_join.proofs.Matching.{decides_says_true}
 use Rattle.al_rules_join.proofs.drop_true.says_true.Goals as goal
 

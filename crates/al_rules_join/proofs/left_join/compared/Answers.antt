@@ -1,4 +1,4 @@
-use Rattle.std.proofs.Common.{◌≡◌, false, sym, ◌∙◌}
+use Rattle.std.proofs.Common.{sym, ◌∙◌}
 use Rattle.al_rules_join.proofs.Matching.{other_left_join_to_join}
 use Rattle.al_rules_join.proofs.left_join.compared.Goals as goal
 

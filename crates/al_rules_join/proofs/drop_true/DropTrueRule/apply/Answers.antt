@@ -1,4 +1,4 @@
-use Rattle.std.proofs.Common.{◌≡◌, sym, subst, IfOk, Result}
+use Rattle.std.proofs.Common.{sym, subst, IfOk, Result}
 use Rattle.al_plan.specs.declared.plan.Plan.{Plan}
 use Rattle.al_plan.specs.Refines.{Replaces}
 use Rattle.al_rule.specs.declared.rule.ApplyFault.{ApplyFault}
