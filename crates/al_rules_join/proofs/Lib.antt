@@ -1,4 +1,3 @@
 pub mod ConditionLaws
-pub mod PairLaws
-pub mod NullLaws
-pub mod Sound
+pub mod Matching
+pub mod SetLaws

@@ -1,6 +1,7 @@
 -- What each rule of the set rewrites: from, condition, to.
-use Rattle.std.specs.Prelude.{◌≡◌, ◌≤◌, ◌⊎◌, Bool, true, false, not, ◌&&◌, List, [], length}
+use Rattle.std.specs.Prelude.{◌≡◌, ◌≤◌, ◌⊎◌, Bool, true, false, not, ◌&&◌, [], length, Option, Some, None, Result, Ok, Err}
 use Rattle.std.specs.List.{list_all, list_any}
+use Rattle.al_value.specs.declared.fault.NoMemory.{NoMemory}
 use Rattle.al_func.specs.declared.func.Func.{Func}
 use Rattle.al_func.specs.declared.func.Func.TheVariants as F
 use Rattle.al_plan.specs.declared.expr.Expr.{Expr, out-Expr}
@@ -11,7 +12,10 @@ use Rattle.al_plan.specs.declared.plan.Plan.TheVariants as P
 use Rattle.al_plan.specs.Names.{names}
 use Rattle.al_plan.specs.Allows.{live, is_among}
 use Rattle.al_conj.specs.Conj.{both, conj, is_literal_true, Splits}
+use Rattle.al_rule.specs.declared.rule.ApplyFault.{ApplyFault}
+use Rattle.al_rule.specs.declared.rule.ApplyFault.TheVariants as A
 use Rattle.al_rule.specs.Places.{Rewriting}
+use Rattle.al_rule.specs.Rules.{Matches}
 
 -- whether an expression reads live variables of a plan alone
 abbrev pub reads_only : Plan → Expr → Bool
@@ -51,11 +55,38 @@ IsNoJoin p = (c : Expr) (l r : Plan) → p ≡ P.Join c l r → ⊥
 abbrev pub IsNoLeftJoin : Plan → Type 0
 IsNoLeftJoin p = (c : Expr) (l r : Plan) → p ≡ P.LeftJoin c l r → ⊥
 
+abbrev pub IsNoSelectOverLeftJoin : Plan → Type 0
+IsNoSelectOverLeftJoin p = (e c : Expr) (l r : Plan) → p ≡ P.Select e (P.LeftJoin c l r) → ⊥
+
+-- the plan is none that may be rewritten
+abbrev pub IsNot : Rewriting → Plan → Type 0
+IsNot R p = Matches R p → ⊥
+
+-- what a plan is rewritten to, or nothing where it is none that may be rewritten
+abbrev pub Rewritten : Rewriting → Plan → Option Plan → Type 0
+Rewritten R p None = IsNot R p
+Rewritten R p (Some q) = R p q
+
+-- what was made of a plan, and the plan itself where nothing was made or memory ran out
+abbrev pub outcome : Plan → Result (Option Plan) NoMemory → Result Plan ApplyFault
+outcome p (Ok (Some q)) = Ok q
+outcome p (Ok None) = Ok p
+outcome p (Err e) = Err (A.NoMemory p)
+
 -- a condition over a left join that is not TRUE of rows without a right one makes it a join
 abbrev pub left_join_to_join : Rewriting
 left_join_to_join p q = (e c : Expr) × (l r : Plan) × (p ≡ P.Select e (P.LeftJoin c l r)) × (compares r e ≡ true) × (q ≡ P.Join (both c e) l r)
 
--- one of several conjuncts is the literal true, which says nothing
+-- one of several conjuncts is the literal true
+abbrev pub SaysTrue : Expr → Type 0
+SaysTrue c = (first : Expr) × (rest : Expr) × (2 ≤ length (conj c)) × Splits is_literal_true c first rest
+
+-- the condition without that conjunct, or nothing where it has none
+abbrev pub IsWithoutTrue : Expr → Option Expr → Type 0
+IsWithoutTrue c None = SaysTrue c → ⊥
+IsWithoutTrue c (Some rest) = (first : Expr) × (2 ≤ length (conj c)) × Splits is_literal_true c first rest
+
+-- it says nothing, so it may go
 abbrev pub drop_true : Rewriting
 drop_true p q = (c first rest : Expr) × (l r : Plan) × (2 ≤ length (conj c)) × Splits is_literal_true c first rest
     × (((p ≡ P.Join c l r) × (q ≡ P.Join rest l r)) ⊎ ((p ≡ P.LeftJoin c l r) × (q ≡ P.LeftJoin rest l r)))

@@ -1,6 +1,5 @@
 -- The set of these rules, and what falls where one of them is applied.
-use Rattle.std.specs.Prelude.{◌≡◌, ◌+◌, ◌*◌, ℕ, zero, suc, Bool, true, false, not, List, [], ◌∷◌, length, if◌then◌else◌}
-use Rattle.std.specs.List.{count_by}
+use Rattle.std.specs.Prelude.{◌+◌, ◌*◌, ℕ, zero, suc, Bool, true, false, not, List, [], ◌∷◌, filter, length, if◌then◌else◌}
 use Rattle.al_plan.specs.declared.expr.Expr.{Expr}
 use Rattle.al_plan.specs.declared.plan.Plan.{Plan, fold-Plan}
 use Rattle.al_plan.specs.declared.plan.Plan.TheOpen.{Plan-F}
@@ -63,7 +62,7 @@ left_joins = over_joins (λ left c. one_if left)
 
 -- conjuncts other than the literal true
 abbrev pub other_conjuncts : Plan → ℕ
-other_conjuncts = over_joins (λ left c. count_by (λ e. not (is_literal_true e)) (conj c))
+other_conjuncts = over_joins (λ left c. length (filter (λ e. not (is_literal_true e)) (conj c)))
 
 abbrev pub all_conjuncts : Plan → ℕ
 all_conjuncts = over_joins (λ left c. length (conj c))

@@ -1,10 +1,11 @@
 -- What a pair of rows gives for conditions of one of its rows, and joins under selects.
-use Rattle.std.proofs.Common.{◌≡◌, ◌≢◌, Bool, true, false, cond, ◌&&◌, List, [], ◌∷◌, ◌++◌, map, filter, flat_map, refl, ap, sym, subst, ◌∙◌}
-use Rattle.std.specs.Prelude.{if◌then◌else◌, ◌||◌}
+use Rattle.std.proofs.Common.{◌≡◌, Bool, true, false, cond, ◌&&◌, List, [], ◌∷◌, ◌++◌, filter, refl, ap, sym, subst, ◌∙◌}
+use Rattle.std.specs.Prelude.{if◌then◌else◌}
 use Rattle.std.specs.List.{AllByRecursion, list_all}
 use Rattle.std.specs.List.Sorted.{IsPermutation}
 use Rattle.std.proofs.lemmas.List.Elements.{filter-append}
 use Rattle.al_func.specs.Func.{is_true}
+use Rattle.al_plan.proofs.Bools.{no}
 use Rattle.al_plan.specs.declared.expr.Var.{Var}
 use Rattle.al_plan.specs.declared.expr.Expr.{Expr}
 use Rattle.al_plan.specs.declared.plan.Plan.{Plan}
@@ -20,9 +21,9 @@ use Rattle.al_rule.specs.Pairs.{IsBoth}
 use Rattle.al_rule.proofs.Joins.{filter-pairs}
 use Rattle.al_rule.proofs.ReadLaws.{eval-names}
 
-both_true : (a b : Bool) → (a && b) ≡ true → (a ≡ true) × (b ≡ true)
+pub both_true : (a b : Bool) → (a && b) ≡ true → (a ≡ true) × (b ≡ true)
 both_true true b h = (refl, h)
-both_true false b h = absurd cc
+both_true false b h = absurd (no (sym h))
 
 -- names that pass a test of each
 pub among_all : (vars : List Var) (qs : List Bytes) → list_all (is_among vars) qs ≡ true → AreAmong vars qs

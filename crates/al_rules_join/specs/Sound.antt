@@ -1,18 +1,17 @@
 -- What each rule makes may stand in the place of what it was made of.
-use Rattle.std.proofs.Common.{◌≡◌, ◌⊎◌, inl, inr, Bool, true, false, not, ◌&&◌, List, [], ◌∷◌, ◌++◌, length, refl, ap, sym, subst, ◌∙◌, None}
-use Rattle.std.specs.List.{list_all, list_any}
+use Rattle.std.proofs.Common.{◌≡◌, inl, inr, Bool, true, false, not, ◌&&◌, List, [], ◌++◌, ap, sym, subst, ◌∙◌, None}
+use Rattle.al_plan.proofs.Bools.{no}
 use Rattle.al_plan.specs.declared.expr.Var.{Var}
 use Rattle.al_plan.specs.declared.expr.Expr.{Expr}
 use Rattle.al_plan.specs.declared.plan.Plan.{Plan}
 use Rattle.al_plan.specs.declared.plan.Plan.TheVariants as P
-use Rattle.al_plan.specs.Eval.{Bytes, Env, holds}
+use Rattle.al_plan.specs.Eval.{Env, holds}
 use Rattle.al_plan.specs.Names.{names}
-use Rattle.al_plan.specs.Allows.{Sets, Allows, live, is_among, beside, nulls}
-use Rattle.al_plan.specs.Refines.{makes, Fit, IsOver, AreAmong, Replaces, result_of}
+use Rattle.al_plan.specs.Allows.{live, beside}
+use Rattle.al_plan.specs.Refines.{Fit, IsOver, AreAmong, Replaces, result_of}
 use Rattle.al_plan.proofs.Lives.{live_apart, turned}
-use Rattle.al_plan.proofs.Makes.{Disjoint}
 use Rattle.al_plan.proofs.PlanLaws.{live-Select, makes-Select, result-Select, live-Join, ordered-Join, scans-Join, makes-Join, result-Join, faults-Join, live-LeftJoin, ordered-LeftJoin, scans-LeftJoin, makes-LeftJoin, result-LeftJoin, faults-LeftJoin}
-use Rattle.al_conj.specs.Conj.{both, conj, is_literal_true, Splits}
+use Rattle.al_conj.specs.Conj.{both, is_literal_true, Splits}
 use Rattle.al_conj.proofs.ConjLaws.{holds-both, over_both}
 use Rattle.al_conj.proofs.Literals.{holds-literal}
 use Rattle.al_conj.proofs.OverLaws.{splits_over, splits_holds}
@@ -23,12 +22,12 @@ use Rattle.al_rule.proofs.FitLaws.{in_Select, out_Select, in_Join, out_Join, in_
 use Rattle.al_rule.proofs.JoinLaws.{pairs_decide}
 use Rattle.al_rule.proofs.RuleFit.{holds-beside}
 use Rattle.al_rules_join.specs.JoinRules.{reads_only, has_variable, is_of, reads_of, compares, left_join_to_join, join_cond_left, join_cond_right, left_join_cond_right, drop_true}
-use Rattle.al_rules_join.proofs.NullLaws.{compares_fails}
-use Rattle.al_rules_join.proofs.PairLaws.{among_all, holds-beside_right, left_join_out}
+use Rattle.al_rules_join.specs.NullLaws.{compares_fails}
+use Rattle.al_rules_join.specs.PairLaws.{among_all, holds-beside_right, left_join_out}
 
 and_right : (a b : Bool) → (a && b) ≡ true → b ≡ true
 and_right true b h = h
-and_right false b h = absurd cc
+and_right false b h = absurd (no (sym h))
 
 reads_by : (p : Plan) (e : Expr) (b : Bool) → (b && reads_only p e) ≡ true → AreAmong (live p []) (names e)
 reads_by p e b h = among_all (live p []) (names e) (and_right b (reads_only p e) h)

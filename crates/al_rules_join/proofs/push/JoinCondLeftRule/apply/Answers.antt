@@ -1,0 +1,14 @@
+use Rattle.std.proofs.Common.{sym, subst, IfOk, Result}
+use Rattle.al_plan.specs.declared.plan.Plan.{Plan}
+use Rattle.al_plan.specs.Refines.{Replaces}
+use Rattle.al_rule.specs.declared.rule.ApplyFault.{ApplyFault}
+use Rattle.al_rules_join.specs.JoinRules.{join_cond_left}
+use Rattle.al_rules_join.specs.Sound.{join_cond_left_sound}
+use Rattle.al_rules_join.proofs.Matching.{applies, refines}
+use Rattle.al_rules_join.proofs.push.JoinCondLeftRule.apply.Goals as goal
+
+pub returns-clause-applied : goal.returns-clause-applied
+returns-clause-applied c = λ m. subst (λ (x : Result Plan ApplyFault). IfOk x (λ q. join_cond_left c.args.p q)) (sym c.outcome.ensures) (applies join_cond_left c.args.p c.pushed_left-made.result c.pushed_left-made.ensures m)
+
+pub returns-clause-refines : goal.returns-clause-refines
+returns-clause-refines c = λ m fit. subst (λ (x : Result Plan ApplyFault). IfOk x (λ q. Replaces q c.args.p)) (sym c.outcome.ensures) (refines join_cond_left join_cond_left_sound c.args.p c.pushed_left-made.result c.pushed_left-made.ensures m fit)
