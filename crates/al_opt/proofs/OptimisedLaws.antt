@@ -1,32 +1,51 @@
 -- Sets driven one after the other.
-use Rattle.std.proofs.Common.{◌≡◌, List, [], ◌∷◌, ◌++◌, refl, ap, sym, ◌∙◌, append_assoc, append-nil}
+use Rattle.std.proofs.Common.{◌≡◌, List, [], ◌∷◌, ◌++◌, refl, ap, sym, subst, ◌∙◌, append_assoc, append-nil, arith}
 use Rattle.al_plan.specs.declared.plan.Plan.{Plan}
-use Rattle.al_plan.specs.Refines.{Fit, Replaces}
+use Rattle.al_plan.specs.Refines.{Fit, Refines, Replaces}
 use Rattle.al_plan.proofs.Refine.{replaces-refl, replaces-trans}
 use Rattle.al_rule.specs.declared.names.SetName.{SetName}
 use Rattle.al_rule.specs.declared.trace.TraceStep.{TraceStep}
 use Rattle.al_rule.specs.declared.trace.Trace.{Trace}
 use Rattle.al_rule.specs.Rules.{Rules}
-use Rattle.al_rule.specs.Driven.{Driven}
-use Rattle.al_opt.specs.Optimised.{Reaches}
+use Rattle.al_rule.specs.Driven.{Driven, Steps}
+use Rattle.al_rule.specs.Entries.{listed}
+use Rattle.al_opt.specs.Optimised.{LegalTrace, Reaches, rules_of, set_order}
 
 -- the trace gained steps by which these sets lead from the first plan to the second
-pub record DrivenOn (rules_of : SetName → Rules) (sets : List SetName) (p : Plan) (before now : Trace) (q : Plan) : Type 0 where
+pub record DrivenOn (sets_of : SetName → Rules) (sets : List SetName) (p : Plan) (before now : Trace) (q : Plan) : Type 0 where
   pub steps : List TraceStep
   pub gained : now.steps ≡ before.steps ++ steps
-  pub driven : Driven rules_of sets steps p q
+  pub driven : Driven sets_of sets steps p q
   pub replaces : Replaces q p
 
-pub none_left : (rules_of : SetName → Rules) (p : Plan) (t : Trace) → Fit p → DrivenOn rules_of [] p t t p
+pub none_left : (sets_of : SetName → Rules) (p : Plan) (t : Trace) → Fit p → DrivenOn sets_of [] p t t p
 unfolding Driven
-none_left rules_of p t fit = record { steps = []; gained = sym (append-nil t.steps); driven = (refl, refl); replaces = replaces-refl p fit }
+none_left sets_of p t fit = record { steps = []; gained = sym (append-nil t.steps); driven = (refl, refl); replaces = replaces-refl p fit }
 
-pub one_more : (rules_of : SetName → Rules) (s : SetName) (sets : List SetName) (p mid q : Plan) (before between now : Trace)
-    → Reaches (rules_of s) p before between mid → DrivenOn rules_of sets mid between now q → DrivenOn rules_of (s ∷ sets) p before now q
+pub one_more : (sets_of : SetName → Rules) (s : SetName) (sets : List SetName) (p mid q : Plan) (before between now : Trace)
+    → Reaches (sets_of s) p before between mid → DrivenOn sets_of sets mid between now q → DrivenOn sets_of (s ∷ sets) p before now q
 unfolding Driven
-one_more rules_of s sets p mid q before between now here later = record {
-    steps = here.drove.0 ++ later.steps;
-    gained = later.gained ∙ ap (λ ss. ss ++ later.steps) here.drove.1 ∙ append_assoc before.steps here.drove.0 later.steps;
-    driven = (here.drove.0, later.steps, mid, (refl, (here.drove.2, (here.stuck, later.driven))));
-    replaces = replaces-trans q mid p later.replaces here.replaces;
-  }
+one_more sets_of s sets p mid q before between now here later = record {
+  steps = here.drove.0 ++ later.steps;
+  gained = later.gained ∙ ap (λ ss. ss ++ later.steps) here.drove.1 ∙ append_assoc before.steps here.drove.0 later.steps;
+  driven = (here.drove.0, later.steps, mid, refl, here.drove.2, here.stuck, later.driven);
+  replaces = replaces-trans q mid p later.replaces here.replaces;
+}
+
+-- a set without rules ends at once
+pub none_in : (set : SetName) (p : Plan) (t : Trace) → Fit p → Reaches (listed set []) p t t p
+unfolding Steps
+none_in set p t fit = record { drove = ([], sym (append-nil t.steps), refl); stuck = λ k few place x at m. absurd (omega arith); replaces = replaces-refl p fit }
+
+-- all sets, from a new trace and a copy of the plan
+pub record Optimised (p : Plan) (t : Trace) (q : Plan) : Type 0 where
+  pub legal : LegalTrace p t.steps q
+  pub refines : Refines q p
+
+pub optimised : (p copy q : Plan) (new t : Trace) → copy ≡ p → new.steps ≡ [] → DrivenOn rules_of set_order copy new t q → Optimised p t q
+optimised p copy q new t same none run =
+    let gained : t.steps ≡ run.steps = run.gained ∙ ap (λ ss. ss ++ run.steps) none in
+    record {
+      legal = subst (λ (x : Plan). LegalTrace x t.steps q) same (subst (λ (ss : List TraceStep). LegalTrace copy ss q) (sym gained) run.driven);
+      refines = subst (λ (x : Plan). Refines q x) same run.replaces.refines;
+    }

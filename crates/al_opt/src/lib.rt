@@ -1,6 +1,6 @@
 //! The optimiser: the sets of rules, driven in their order.
 #![tactic(auto)]
 
-mod optimise;
+mod optimiser;
 
-pub use optimise::optimise;
+pub use optimiser::optimise;

@@ -5,11 +5,12 @@ ghost use Rattle.al_plan.specs.Refines.{Fit, Refines};
 ghost use Rattle.al_rule.specs.Driven.{Drove};
 ghost use Rattle.al_rule.specs.Rules.{Stuck};
 ghost use Rattle.al_opt.specs.Optimised.{LegalTrace, Reaches};
+ghost use Rattle.al_rules_select.specs.Sets.{split_rules};
 
 use al_plan::Plan;
 use al_rule::{ApplyFault, RuleSet, Trace, drive_fixpoint, drive_once};
 use al_rules_join::JoinSet;
-use al_rules_select::{SelectSet, SplitSet};
+use al_rules_select::{SelectSet, SplitSet, split_laws};
 use al_value::NoMemory;
 use std::alloc::Global;
 
@@ -49,8 +50,5 @@ pub fn optimise(alloc: Global, p: &Plan) -> Result<(Plan, Trace), NoMemory>
     let q = exhaust(alloc, &SelectSet, q, &mut trace)?;
     let q = exhaust(alloc, &JoinSet, q, &mut trace)?;
     let q = exhaust(alloc, &SelectSet, q, &mut trace)?;
-    let q = exhaust(alloc, &OrderSet, q, &mut trace)?;
-    let q = exhaust(alloc, &GroupSet, q, &mut trace)?;
-    let q = exhaust(alloc, &PruneSet, q, &mut trace)?;
     Ok((q, trace))
 }
