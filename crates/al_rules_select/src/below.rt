@@ -265,6 +265,8 @@ impl Rule for SelectBelowLeftJoin {
     }
 
     fn apply(&self, alloc: Global, p: Plan) -> Result<Plan, ApplyFault> {
-        lower(alloc, p, 0)
+        // Never the right one: a left row whose pairs it dropped would come alone.
+        let left = 0;
+        lower(alloc, p, left)
     }
 }
