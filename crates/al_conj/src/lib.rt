@@ -1,0 +1,2 @@
+//! The conjuncts of a condition.
+#![tactic(auto)]
