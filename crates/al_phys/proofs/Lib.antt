@@ -1,0 +1,4 @@
+pub mod PhysLaws
+pub mod OperatorLaws
+pub mod PropertyLaws
+pub mod PhysRules
