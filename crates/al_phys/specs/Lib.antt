@@ -6,3 +6,4 @@ pub mod PAllows
 pub mod Properties
 pub mod Placed
 pub mod Stands
+pub mod Laws

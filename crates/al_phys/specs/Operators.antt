@@ -7,7 +7,8 @@ use Rattle.al_phys.specs.declared.phys.Phys.{Phys, fold-Phys, rec-Phys, map-Phys
 use Rattle.al_phys.specs.declared.phys.Phys.TheOpen.{Phys-F}
 use Rattle.al_phys.specs.declared.phys.Phys.TheOpen as P
 
--- the live variables, in order; the row of partial states of an agg-part has none
+-- the live variables, in order; those of a nested plan, whose root is an aggregate, do not hang on the outer row's. The row
+-- of partial states of an agg-part has none
 abbrev pub live_step : Phys-F (List Var) → List Var
 live_step (P.Scan set vars) = vars
 live_step P.One = []
@@ -15,11 +16,11 @@ live_step (P.Assign made p) = p ++ map (λ m. m.0) made
 live_step (P.Select c p) = p
 live_step (P.Project vars p) = vars
 live_step (P.Unnest v g p) = p ++ v ∷ []
-live_step (P.Subplan n p) = p ++ live n p
+live_step (P.Subplan n p) = p ++ live n []
 live_step (P.Check name c p) = p
 live_step (P.Join form c l r) = l ++ r
-live_step (P.HashGroup keys n p) = map (λ k. k.0) keys ++ live n p
-live_step (P.PreGroup keys n p) = map (λ k. k.0) keys ++ live n p
+live_step (P.HashGroup keys n p) = map (λ k. k.0) keys ++ live n []
+live_step (P.PreGroup keys n p) = map (λ k. k.0) keys ++ live n []
 live_step (P.HashDistinct p) = p
 live_step (P.AggPart made p) = []
 live_step (P.AggFinal made p) = map (λ m. m.0) made

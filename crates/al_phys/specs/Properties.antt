@@ -1,5 +1,5 @@
 -- What operators need of their inputs, what they deliver, and which property meets which need.
-use Rattle.std.specs.Prelude.{ℕ, zero, suc, Bool, true, false, ◌&&◌, ◌||◌, nat_eq, if◌then◌else◌, List, [], ◌∷◌, map, Option, Some, None, take_while}
+use Rattle.std.specs.Prelude.{ℕ, zero, suc, Bool, true, false, not, ◌&&◌, ◌||◌, nat_eq, if◌then◌else◌, List, [], ◌∷◌, map, Option, Some, None}
 use Rattle.std.specs.List.{filter_map}
 use Rattle.std.specs.Cmp.Lexicographic.{pointwise}
 use Rattle.al_func.specs.declared.func.Func.TheVariants as F
@@ -28,19 +28,39 @@ is_same_var v w = pointwise nat_eq v.name w.name
 
 -- ---- which property meets which need
 
+abbrev pub is_broadcast : Partitioning → Bool
+is_broadcast D.Unpartitioned = false
+is_broadcast (D.Hash vars) = false
+is_broadcast D.Broadcast = true
+is_broadcast D.Random = false
+
+abbrev pub is_unpartitioned : Partitioning → Bool
+is_unpartitioned D.Unpartitioned = true
+is_unpartitioned (D.Hash vars) = false
+is_unpartitioned D.Broadcast = false
+is_unpartitioned D.Random = false
+
+-- rows with equal values at these variables stand in one part: all rows do, or the hash looks at these variables alone
+abbrev pub is_keyed : List Var → Partitioning → Bool
+is_keyed vars D.Unpartitioned = true
+is_keyed vars (D.Hash ws) = are_among vars ws
+is_keyed vars D.Broadcast = false
+is_keyed vars D.Random = false
+
+-- the hash is that of these variables, in this order
+abbrev pub is_exactly : List Var → Partitioning → Bool
+is_exactly vars D.Unpartitioned = false
+is_exactly vars (D.Hash ws) = pointwise is_same_var ws vars
+is_exactly vars D.Broadcast = false
+is_exactly vars D.Random = false
+
 -- with more than one partition
 abbrev pub fits : Partitioning → Need → Bool
-fits D.Broadcast N.Any = false
-fits _ N.Any = true
-fits D.Unpartitioned N.One = true
-fits _ N.One = false
-fits D.Unpartitioned (N.Keyed vars) = true
-fits (D.Hash ws) (N.Keyed vars) = are_among vars ws
-fits _ (N.Keyed vars) = false
-fits (D.Hash ws) (N.Exactly vars) = pointwise is_same_var ws vars
-fits _ (N.Exactly vars) = false
-fits D.Broadcast N.All = true
-fits _ N.All = false
+fits d N.Any = not (is_broadcast d)
+fits d N.One = is_unpartitioned d
+fits d (N.Keyed vars) = is_keyed vars d
+fits d (N.Exactly vars) = is_exactly vars d
+fits d N.All = is_broadcast d
 
 abbrev pub meets : Partitioning → Need → ℕ → Bool
 meets d need partitions = nat_eq partitions 1 || fits d need
@@ -179,10 +199,14 @@ abbrev pub order_by : List OrderKey → Local
 order_by [] = O.None
 order_by (k ∷ ks) = O.Order (k ∷ ks)
 
--- the longest prefix of kept variables
+-- the longest prefix of an order whose variables are kept
+abbrev pub kept_keys : List Var → List OrderKey → List OrderKey
+kept_keys vars [] = []
+kept_keys vars (k ∷ ks) = if is_among vars k.var.name then k ∷ kept_keys vars ks else []
+
 abbrev pub kept_order : List Var → Local → Local
 kept_order vars O.None = O.None
-kept_order vars (O.Order keys) = order_by (take_while (λ k. is_among vars k.var.name) keys)
+kept_order vars (O.Order keys) = order_by (kept_keys vars keys)
 
 abbrev pub order_step : Phys-F Local → Local
 order_step (P.Assign made p) = p
