@@ -4,3 +4,6 @@ pub mod PropertyLaws
 pub mod PhysRules
 pub mod PrefixLaws
 pub mod EquiLaws
+pub mod ValueLaws
+pub mod MeetsLaws
+pub mod CountLaws

@@ -4,6 +4,7 @@
 mod copies;
 mod delivery;
 mod equi;
+mod laws;
 mod live;
 mod meeting;
 mod needs;
@@ -12,6 +13,7 @@ mod property;
 
 pub use al_plan::OrderKey;
 pub use delivery::delivered;
+pub use laws::phys_laws;
 pub use live::phys_live;
 pub use meeting::meets;
 pub use needs::required;
