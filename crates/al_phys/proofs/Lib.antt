@@ -7,3 +7,6 @@ pub mod EquiLaws
 pub mod ValueLaws
 pub mod MeetsLaws
 pub mod CountLaws
+pub mod LiveLaws
+pub mod OverLaws
+pub mod FlowLaws
