@@ -10,3 +10,5 @@ pub mod CountLaws
 pub mod LiveLaws
 pub mod OverLaws
 pub mod FlowLaws
+pub mod PartLaws
+pub mod GiveLaws

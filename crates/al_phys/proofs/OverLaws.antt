@@ -70,7 +70,7 @@ order_more xs ys (O.Order keys) h = live_more xs (xs ++ ys) (vars_of keys) (amon
 
 -- ---- kept variables
 
-kept_over : (vars : List Var) (d : Partitioning) → PartsOver vars (kept_parts vars d)
+pub kept_over : (vars : List Var) (d : Partitioning) → PartsOver vars (kept_parts vars d)
 kept_over vars D.Unpartitioned = tt
 kept_over vars (D.Hash ws) = go (are_among vars ws) refl
   where
@@ -92,13 +92,13 @@ by_over : (vars : List Var) (keys : List OrderKey) → AreLive vars (vars_of key
 by_over vars [] h = tt
 by_over vars (k ∷ keys) h = h
 
-kept_order_over : (vars : List Var) (o : Local) → OrderOver vars (kept_order vars o)
+pub kept_order_over : (vars : List Var) (o : Local) → OrderOver vars (kept_order vars o)
 kept_order_over vars O.None = tt
 kept_order_over vars (O.Order keys) = by_over vars (kept_keys vars keys) (kept_live vars keys)
 
 -- ---- groups
 
-new_among : (keys : List (Var × Var)) (w : Var) → is_among (old_of keys) w.name ≡ true → is_among (map (λ k. k.0) keys) (new_for keys w).name ≡ true
+pub new_among : (keys : List (Var × Var)) (w : Var) → is_among (old_of keys) w.name ≡ true → is_among (map (λ k. k.0) keys) (new_for keys w).name ≡ true
 new_among [] w e = absurd (no (sym e))
 new_among (k ∷ keys) w e = go (is_same_var k.1 w) refl (new_among keys w)
   where
