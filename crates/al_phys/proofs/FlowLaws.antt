@@ -1,12 +1,12 @@
 -- Rows that come of other rows: with the same values at some variables, and in the same order.
-use Rattle.std.proofs.Common.{◌≡◌, ◌≢◌, ◌+◌, ◌<◌, ℕ, zero, suc, Bool, true, false, cond, List, [], ◌∷◌, ◌++◌, map, filter, flat_map, take, drop, length, get_or, refl, ap, sym, subst, ◌∙◌, arith, Less, Equal, Greater, Ordering, is_lt}
+use Rattle.std.proofs.Common.{◌≡◌, ◌+◌, ℕ, zero, suc, Bool, true, false, cond, List, [], ◌∷◌, ◌++◌, map, filter, flat_map, take, drop, get_or, refl, ap, sym, subst, ◌∙◌, arith, Less, Equal, Greater, Ordering, is_lt}
 use Rattle.std.specs.Prelude.{if◌then◌else◌}
-use Rattle.std.specs.List.{All, AllByRecursion, AllPairs, AllZip, Contains}
+use Rattle.std.specs.List.{All, AllByRecursion, AllZip, Contains}
 use Rattle.std.specs.List.Sorted.{IsPermutation, IsSorted}
 use Rattle.std.specs.Cmp.{IsStrictWeakOrder}
 use Rattle.std.specs.Ordering.{ordering_then}
-use Rattle.std.proofs.lemmas.List.Elements.{All-nil, All-from_recursion, recursion_from_All, All-weaker, All-append, Contains-append_right, Contains-get_or}
-use Rattle.std.proofs.lemmas.List.Sorted.{ranks_by, sorted_far, Contains-permutation, All-permutation, IsPermutation-sym}
+use Rattle.std.proofs.lemmas.List.Elements.{All-nil, All-from_recursion, All-weaker, All-append, Contains-append_right, Contains-get_or}
+use Rattle.std.proofs.lemmas.List.Sorted.{ranks_by, sorted_far, Contains-permutation, IsPermutation-sym}
 use Rattle.al_value.specs.Value.{value_cmp}
 use Rattle.al_value.specs.declared.value.Value.{Value}
 use Rattle.al_plan.specs.declared.expr.Var.{Var}
@@ -136,7 +136,7 @@ sorted keys rows h = λ k d low high. pairs_from_apart (IsUpTo keys) rows h k (k
 cmp_itself : (keys : List OrderKey) (r : Env) → is_lt (keys_cmp keys r r) ≡ false
 cmp_itself keys r = by_cases (is_lt (keys_cmp keys r r)) (λ t. (order_of_keys keys).one_way r r t) (λ f. f)
 
-all_both : {X : Type 0} (P : X → Type 0) (xs ys : List X) → AllByRecursion P xs → AllByRecursion P ys → AllByRecursion P (xs ++ ys)
+pub all_both : {X : Type 0} (P : X → Type 0) (xs ys : List X) → AllByRecursion P xs → AllByRecursion P ys → AllByRecursion P (xs ++ ys)
 all_both P [] ys h g = g
 all_both P (x ∷ xs) ys h g = (h.0, all_both P xs ys h.1 g)
 

@@ -1,10 +1,10 @@
 -- How the rows that an operator gives in a part come of those that it takes there.
-use Rattle.std.proofs.Common.{◌≡◌, ℕ, zero, suc, Bool, true, false, List, [], ◌∷◌, ◌++◌, map, filter, flat_map, zip, length, refl, ap, sym, subst, ◌∙◌, arith}
+use Rattle.std.proofs.Common.{◌≡◌, zero, Bool, true, false, List, [], ◌∷◌, map, filter, flat_map, zip, length, refl, ap, sym, subst, ◌∙◌, arith}
 use Rattle.std.specs.Prelude.{nat_eq, if◌then◌else◌, ◌||◌}
 use Rattle.std.specs.Cmp.Lexicographic.{pointwise, same_text}
-use Rattle.std.specs.List.{All, AllByRecursion, AllZip, Contains}
+use Rattle.std.specs.List.{AllByRecursion, AllZip, Contains}
 use Rattle.std.specs.List.Sorted.{IsPermutation}
-use Rattle.std.proofs.lemmas.List.Elements.{All-from_recursion, recursion_from_All, All-filter, All-weaker, Contains-append_left, Contains-append_right}
+use Rattle.std.proofs.lemmas.List.Elements.{All-from_recursion, recursion_from_All, All-filter, All-weaker, Contains-append_right}
 use Rattle.std.proofs.lemmas.List.Sorted.{All-permutation, Contains-permutation, IsPermutation-sym}
 use Rattle.al_value.specs.declared.value.Value.{Value}
 use Rattle.al_value.specs.declared.value.Value.TheVariants as V
@@ -14,15 +14,14 @@ use Rattle.al_plan.specs.declared.plan.Generator.{Generator}
 use Rattle.al_plan.specs.declared.plan.Plan.{Plan}
 use Rattle.al_plan.specs.Eval.{Bytes, Env, bind, eval, holds}
 use Rattle.al_plan.specs.Calls.{items}
-use Rattle.al_plan.specs.Allows.{Sets, Allows, Gives, live, is_among, cut, beside, with_new, assigned, expanded, matches, or_alone, pairs, left_pairs, nulls, key_of, new_of, Group, rows_in, IsGrouping, IsDistinctOf}
+use Rattle.al_plan.specs.Allows.{Sets, Allows, Gives, live, is_among, cut, beside, with_new, assigned, expanded, matches, or_alone, nulls, key_of, new_of, Group, rows_in}
 use Rattle.al_plan.specs.Refines.{AreLive, NoTwice}
 use Rattle.al_plan.proofs.Bools.{no, by_cases}
 use Rattle.al_plan.proofs.EvalLaws.{bind-cons}
 use Rattle.al_plan.proofs.Makes.{Disjoint, text_itself}
 use Rattle.al_plan.proofs.Within.{zip_all}
 use Rattle.al_plan.proofs.Moves.{IsPermutation-same}
-use Rattle.al_phys.specs.Gives.{joined, IsNested, AreMade, IsGrouped, AreStretches, IsPreGrouped}
-use Rattle.al_phys.specs.Parts.{values_at}
+use Rattle.al_phys.specs.Gives.{joined, IsNested, AreMade, IsGrouped, IsPreGrouped}
 use Rattle.al_phys.specs.Properties.{is_same_var, new_for, old_of}
 use Rattle.al_phys.proofs.FlowLaws.{IsAlike, Comes, Follows, follows-map, follows-flat, follows-zip, comes-follows}
 use Rattle.al_phys.proofs.OverLaws.{new_among}

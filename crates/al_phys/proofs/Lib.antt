@@ -12,3 +12,6 @@ pub mod OverLaws
 pub mod FlowLaws
 pub mod PartLaws
 pub mod GiveLaws
+pub mod GoodLaws
+pub mod ServedLaws
+pub mod DeliveredLaws

@@ -1,38 +1,23 @@
 -- What is live in a physical plan was made in it, and what each operator of a laid plan is laid over.
-use Rattle.std.proofs.Common.{◌≡◌, ℕ, Bool, true, false, cond, List, [], ◌∷◌, ◌++◌, map, filter_map, refl, ap, sym, subst, ◌∙◌, Option, Some, None}
-use Rattle.std.specs.Prelude.{nat_eq, if◌then◌else◌, ◌||◌, ◌&&◌}
-use Rattle.std.specs.List.{AllByRecursion, cons_option}
-use Rattle.std.specs.Cmp.Lexicographic.{pointwise, same_text}
+use Rattle.std.proofs.Common.{◌≡◌, ℕ, true, false, List, [], ◌∷◌, ◌++◌, map, refl, ap, sym, subst, ◌∙◌}
+use Rattle.std.specs.List.{AllByRecursion}
 use Rattle.al_plan.specs.declared.expr.Var.{Var}
-use Rattle.al_plan.specs.declared.expr.Expr.{Expr}
-use Rattle.al_plan.specs.declared.expr.Expr.TheOpen as X
-use Rattle.al_func.specs.declared.func.Func.TheVariants as F
-use Rattle.al_plan.specs.declared.plan.OrderKey.{OrderKey}
 use Rattle.al_plan.specs.declared.plan.Plan.{Plan, map-Plan, roll-Plan, ind-Plan}
 use Rattle.al_plan.specs.declared.plan.Plan.TheOpen as P
 use Rattle.al_plan.specs.Eval.{Bytes}
 use Rattle.al_plan.specs.Allows.{live, is_among}
-use Rattle.al_plan.specs.Accept.{are_among}
-use Rattle.al_plan.specs.Refines.{NoTwice, AreLive, makes, is_aggregate}
+use Rattle.al_plan.specs.Refines.{AreLive, makes, is_aggregate}
 use Rattle.al_plan.proofs.Bools.{no, by_cases}
 use Rattle.al_plan.proofs.PlanLaws.{aggregate-roll, makes-roll}
 use Rattle.al_plan.proofs.Mono.{live_is}
-use Rattle.al_plan.proofs.Within.{not_left, not_right, is_among-append}
-use Rattle.al_plan.proofs.Makes.{not_append, among_of, at_head, Disjoint}
-use Rattle.al_conj.specs.Conj.{conj}
+use Rattle.al_plan.proofs.Within.{not_left, not_right}
+use Rattle.al_plan.proofs.Makes.{not_append, among_of, Disjoint}
 use Rattle.al_phys.specs.declared.phys.Phys.{Phys, map-Phys, roll-Phys, ind-Phys}
 use Rattle.al_phys.specs.declared.phys.Phys.TheOpen as L
-use Rattle.al_phys.specs.declared.property.Partitioning.{Partitioning}
-use Rattle.al_phys.specs.declared.property.Partitioning.TheVariants as D
-use Rattle.al_phys.specs.declared.property.Local.{Local}
-use Rattle.al_phys.specs.declared.property.Local.TheVariants as O
-use Rattle.al_phys.specs.Gives.{is_hash}
 use Rattle.al_phys.specs.Operators.{phys_live, live_step, phys_makes, makes_step, operators, below}
-use Rattle.al_phys.specs.Properties.{is_same_var, sided, both_sided, equi_step, equi_key, equi_keys, left_keys, variable_of, old_of, kept_parts, new_for, group_parts, union_parts, join_parts, Spread, spread_of, spread_by, order_of, order_step, order_by, kept_keys, kept_order}
-use Rattle.al_phys.specs.Placed.{IsLaid, laid_step, vars_of}
+use Rattle.al_phys.specs.Placed.{IsLaid, laid_step}
 use Rattle.al_phys.proofs.OperatorLaws.{plive-roll, pmakes-roll, operators-roll}
-use Rattle.al_phys.proofs.PropertyLaws.{laid-roll, spread-roll, order-roll}
-use Rattle.al_phys.proofs.ValueLaws.{and_left, and_right, live_from}
+use Rattle.al_phys.proofs.PropertyLaws.{laid-roll}
 
 -- ---- nested plans
 
@@ -75,7 +60,7 @@ inner_made n e given = (own n e given).1
 
 -- ---- the parts of a plan
 
-map_itself : (x : L.Phys-F Phys) → map-Phys Phys Phys (λ q. q) x ≡ x
+pub map_itself : (x : L.Phys-F Phys) → map-Phys Phys Phys (λ q. q) x ≡ x
 map_itself (L.Scan set vars) = refl
 map_itself L.One = refl
 map_itself (L.Assign made p) = refl

@@ -1,8 +1,8 @@
 -- Parts with a property serve each need that the property meets.
-use Rattle.std.proofs.Common.{◌≡◌, ◌≢◌, ◌+◌, ◌<◌, ◌%◌, ℕ, zero, suc, Bool, true, false, not, ◌||◌, List, [], ◌∷◌, map, drop, length, get_or, refl, ap, sym, subst, ◌∙◌, arith, nat_eq, mod-lt}
+use Rattle.std.proofs.Common.{◌≡◌, ◌<◌, ◌%◌, ℕ, zero, suc, true, ◌||◌, List, [], ◌∷◌, drop, length, get_or, refl, ap, sym, subst, ◌∙◌, arith, nat_eq, mod-lt}
 use Rattle.std.specs.List.{All, AllPairs, Contains}
 use Rattle.std.specs.List.Sorted.{IsPermutation}
-use Rattle.std.proofs.lemmas.List.{get_or_default, get_or-drop, length-drop}
+use Rattle.std.proofs.lemmas.List.{get_or_default}
 use Rattle.std.proofs.lemmas.List.Elements.{All-contains, All-nil, All-from_recursion}
 use Rattle.std.proofs.lemmas.List.Sorted.{IsPermutation-refl}
 use Rattle.al_plan.specs.declared.expr.Var.{Var}
@@ -90,7 +90,7 @@ fit_serves (D.Hash ws) N.All parts fit h = absurd (no (sym fit))
 fit_serves D.Broadcast N.All parts fit h = h
 fit_serves D.Random N.All parts fit h = absurd (no (sym fit))
 
-is_one : (n : ℕ) → nat_eq n 1 ≡ true → n ≡ 1
+pub is_one : (n : ℕ) → nat_eq n 1 ≡ true → n ≡ 1
 is_one n e = grind arith
 
 pub met_serves : (d : Partitioning) (need : Need) (parts : Parts) → meets d need (length parts) ≡ true → HasParts d parts → Serves need parts

@@ -12,7 +12,7 @@ use Rattle.al_plan.specs.Eval.{Bytes}
 use Rattle.al_plan.specs.Allows.{live, is_among}
 use Rattle.al_plan.specs.Accept.{are_among}
 use Rattle.al_plan.specs.Refines.{AreLive}
-use Rattle.al_plan.proofs.Bools.{no, by_cases}
+use Rattle.al_plan.proofs.Bools.{no}
 use Rattle.al_plan.proofs.Within.{is_among-append}
 use Rattle.al_plan.proofs.Makes.{at_head}
 use Rattle.al_conj.specs.Conj.{conj}
@@ -24,12 +24,12 @@ use Rattle.al_phys.specs.declared.property.Local.{Local}
 use Rattle.al_phys.specs.declared.property.Local.TheVariants as O
 use Rattle.al_phys.specs.Gives.{is_hash}
 use Rattle.al_phys.specs.Operators.{phys_live, live_step, operators, below}
-use Rattle.al_phys.specs.Properties.{is_same_var, sided, both_sided, equi_step, equi_key, equi_keys, left_keys, variable_of, old_of, kept_parts, new_for, group_parts, union_parts, join_parts, Spread, spread_of, spread_by, order_of, order_step, order_by, kept_keys, kept_order}
+use Rattle.al_phys.specs.Properties.{is_same_var, sided, both_sided, equi_step, equi_key, left_keys, variable_of, old_of, kept_parts, new_for, group_parts, union_parts, join_parts, spread_of, spread_by, order_of, order_step, order_by, kept_keys, kept_order}
 use Rattle.al_phys.specs.Placed.{IsLaid, laid_step, vars_of}
 use Rattle.al_phys.proofs.OperatorLaws.{plive-roll}
 use Rattle.al_phys.proofs.PropertyLaws.{spread-roll, order-roll, order-Sort}
 use Rattle.al_phys.proofs.ValueLaws.{and_left, and_right, live_from}
-use Rattle.al_phys.proofs.LiveLaws.{AllLaid, laid_here, laid_below, left_laid, right_laid}
+use Rattle.al_phys.proofs.LiveLaws.{AllLaid, laid_here, laid_below, left_laid}
 
 -- a partitioning by these variables, if by any
 abbrev pub PartsOver : List Var → Partitioning → Type 0

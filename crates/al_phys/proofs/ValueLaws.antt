@@ -1,5 +1,5 @@
 -- Variables, and the values of rows at them.
-use Rattle.std.proofs.Common.{◌≡◌, Bool, true, false, ◌&&◌, List, [], ◌∷◌, ◌++◌, map, refl, ap, sym, ◌∙◌, length, take}
+use Rattle.std.proofs.Common.{◌≡◌, Bool, true, false, ◌&&◌, List, [], ◌∷◌, refl, ap, sym, ◌∙◌}
 use Rattle.std.specs.Prelude.{nat_eq, ◌||◌}
 use Rattle.std.specs.List.{AllByRecursion}
 use Rattle.std.specs.Cmp.Lexicographic.{pointwise, same_text}
@@ -10,7 +10,7 @@ use Rattle.al_plan.specs.Allows.{is_among}
 use Rattle.al_plan.specs.Accept.{are_among}
 use Rattle.al_plan.specs.Refines.{AreLive}
 use Rattle.al_plan.proofs.Bools.{no, by_cases}
-use Rattle.al_plan.proofs.Makes.{text_itself, at_head}
+use Rattle.al_plan.proofs.Makes.{text_itself}
 use Rattle.al_phys.specs.Parts.{values_at}
 use Rattle.al_phys.specs.Properties.{is_same_var}
 

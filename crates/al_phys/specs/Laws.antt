@@ -1,5 +1,5 @@
 -- Laws of physical plans, for the function that shows them.
-use Rattle.std.specs.Prelude.{◌≡◌, ℕ, Bool, true, List, length}
+use Rattle.std.specs.Prelude.{◌≡◌, ℕ, Bool, true, length}
 use Rattle.std.specs.List.{Contains}
 use Rattle.al_plan.specs.Allows.{Sets}
 use Rattle.al_phys.specs.declared.phys.Phys.{Phys}

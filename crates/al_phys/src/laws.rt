@@ -1,8 +1,9 @@
-ghost use Rattle.al_phys.specs.Laws.{MetIsServed, PartsAreMany};
+ghost use Rattle.al_phys.specs.Laws.{MetIsServed, PartsAreMany, DeliveredHolds};
 
 /// The laws of parts: what their properties serve, and which properties the parts have that a
 /// physical plan allows. It does nothing: its clauses speak of every plan.
 pub fn phys_laws()
     ensures met { MetIsServed }
     ensures many { PartsAreMany }
+    ensures delivered { DeliveredHolds }
 {}
