@@ -15,3 +15,4 @@ pub mod GiveLaws
 pub mod GoodLaws
 pub mod ServedLaws
 pub mod DeliveredLaws
+pub mod PlacedCases

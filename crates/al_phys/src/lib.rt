@@ -13,7 +13,7 @@ mod property;
 
 pub use al_plan::OrderKey;
 pub use delivery::delivered;
-pub use laws::phys_laws;
+pub use laws::{phys_laws, placed_cases};
 pub use live::phys_live;
 pub use meeting::meets;
 pub use needs::required;

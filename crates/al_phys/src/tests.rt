@@ -80,5 +80,6 @@ fn a_join_needs_and_delivers_its_keys(rt: HostRuntime) -> Result<(), Fail> {
 #[test]
 fn calls_the_laws(_rt: HostRuntime) -> Result<(), Fail> {
     phys_laws();
+    placed_cases();
     Ok(())
 }
