@@ -1,5 +1,6 @@
 use crate::{
-    JoinForm, Local, Need, Partitioning, Phys, delivered, meets, phys_laws, phys_live, required,
+    JoinForm, Local, Need, Partitioning, Phys, delivered, meets, phys_laws, phys_live,
+    placed_cases, required,
 };
 use al_func::Func;
 use al_plan::{Expr, Var};
