@@ -1,0 +1,9 @@
+pub mod Partition
+pub mod Operators
+pub mod Parts
+pub mod Gives
+pub mod PAllows
+pub mod Properties
+pub mod Placed
+pub mod Stands
+pub mod Laws
