@@ -39,8 +39,7 @@ count-taken xs ys x b h =
 rest_conj : (es : List Expr) → AllByRecursion IsLeaf es → (others (conj (all_of es)) ≡ others es) × (length (conj (all_of es)) ≤ suc (length es)) × (1 ≤ length es → conj (all_of es) ≡ es)
 rest_conj [] h =
     let alone = conj-leaf (E.Lit (V.Bool true)) (leaf_Lit (V.Bool true)) in
-    let none : is_other (E.Lit (V.Bool true)) ≡ false = ap not (literal-Lit (V.Bool true)) in
-    (
+    let none : is_other (E.Lit (V.Bool true)) ≡ false = ap not (literal-Lit (V.Bool true)) in (
       ap others alone ∙ count-cons (E.Lit (V.Bool true)) [] false none,
       subst (λ (zs : List Expr). length zs ≤ 1) (sym alone) (omega arith),
       λ k. absurd (omega arith),

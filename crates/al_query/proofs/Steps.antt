@@ -18,11 +18,16 @@ use Rattle.al_plan.specs.declared.file.PlanFile.{PlanFile}
 use Rattle.al_plan.specs.declared.file.Refused.{Refused}
 use Rattle.al_plan.specs.declared.file.RefusedKind.TheVariants as refused
 use Rattle.al_plan.specs.Grammar.{IsRoot}
-use Rattle.al_plan.specs.Refines.{Fit}
+use Rattle.al_plan.specs.declared.plan.Plan.{Plan}
+use Rattle.al_plan.specs.Refines.{Fit, Refines}
 use Rattle.al_plan.specs.Allows.{live}
 use Rattle.al_plain.specs.declared.plan.Data.{Data}
 use Rattle.al_plain.specs.Gives.{sets_of, Gives}
-use Rattle.al_print.specs.Canonical.{plan_text}
+use Rattle.al_print.specs.Canonical.{file_with, plan_text}
+use Rattle.al_print.specs.Explanation.{explanation}
+use Rattle.al_rule.specs.declared.trace.TraceStep.{TraceStep}
+use Rattle.al_opt.specs.Optimised.{LegalTrace}
+use Rattle.al_value.specs.declared.fault.NoMemory.{NoMemory}
 use Rattle.al_plan.specs.Accept.{IsAccepted, accept_refusal}
 use Rattle.al_read.specs.declared.plan.ReadRefused.{ReadRefused}
 use Rattle.al_read.specs.declared.plan.ReadRefused.TheVariants as A
@@ -204,6 +209,10 @@ pub told_explanation : (files : Option Files) (name text : Bytes) (f g : PlanFil
 told_explanation files name text f g is h (steps, q, legal, refines, parts) =
     told_map files (λ fs. TellsPlan (fs name) (Ok f)) (λ fs. TellsExplained fs name (Ok text)) h
     (λ fs plan. record { file = g; plan = subst (IsPlan (fs name)) is plan; steps = steps; optimised = q; legal = legal; refines = refines; parts = parts })
+
+pub explained_by : (f : PlanFile) (steps : List TraceStep) (q : Plan) (r : Result Bytes NoMemory) → LegalTrace f.root steps q → Refines q f.root → IfOk r (λ text. text ≡ explanation steps (file_with f q)) → IfOk r (λ text. Explains f text)
+explained_by f steps q (Ok text) legal refines h = (steps, q, legal, refines, h)
+explained_by f steps q (Err e) legal refines h = h
 
 -- ---- commands
 

@@ -16,11 +16,7 @@ use std::alloc::Global;
 
 /// The steps by which the plan of a file is rewritten, and the plan that they lead to; no dataset
 /// is opened.
-pub fn explained<S: Source>(
-    alloc: Global,
-    name: &str,
-    source: &mut S,
-) -> Result<List<u8>, Status>
+pub fn explained<S: Source>(alloc: Global, name: &str, source: &mut S) -> Result<List<u8>, Status>
     ensures tells { Told (S.files source.old) (λ fs. TellsExplained fs name.now result) }
     ensures stops { IfErr result IsStop }
     ensures cause { Counted (is_source_fault result) (S.faults source.old) (S.faults source.new) }

@@ -1,48 +1,187 @@
 use super::queries::file_of;
-use super::{Case, expect};
+use super::{Case, expect, serve};
+use std::alloc::Global;
 use std::process::Abort;
 use std::test::Fail;
 
-/// Explains a plan over the variables that are listed: the steps of its trace, and the plan that
-/// they lead to.
-fn explains<R: Abort + AllocGlobal>(
-    rt: &R,
-    listed: &str,
-    plan: &str,
-    steps: &str,
-    rewritten: &str,
-) -> Result<(), Fail> {
+const EMP_AND_DEPT: &str = "$id $name $dept $pay $c $t";
+
+/// A plan over the variables that are listed, the steps of its trace, and the plan that they lead
+/// to. SCAN stands for the scan of emp, and DEPT for that of dept.
+struct Row<'a> {
+    listed: &'a str,
+    plan: &'a str,
+    steps: &'a str,
+    rewritten: &'a str,
+}
+
+fn dept_file(alloc: Global, listed: &str, plan: &str) -> Result<String, Fail> {
+    let plan = plan.replace(alloc, "DEPT", "(scan dept ($c $t))")?;
+    file_of(alloc, listed, plan.as_str())
+}
+
+fn explains<R: Abort + AllocGlobal>(rt: &R, row: &Row) -> Result<(), Fail> {
     let alloc = rt.alloc();
-    let file = file_of(alloc, listed, plan)?;
-    let after = file_of(alloc, listed, rewritten)?;
+    let file = dept_file(alloc, row.listed, row.plan)?;
+    let after = dept_file(alloc, row.listed, row.rewritten)?;
+    let steps = row.steps;
     let text = format!(in alloc; "trace\n{steps}plan\n{after}\n")?;
     let case = Case::of_plan("explain p --partitions 2", file.as_str());
     expect(rt, &case, 0, text.as_str(), "")
 }
 
+const SELECTS: [Row<'static>; 12] = [
+    Row {
+        listed: "$c $t",
+        plan: "(select (eq $t \"Ex\") DEPT)",
+        steps: "",
+        rewritten: "(select (eq $t \"Ex\") DEPT)",
+    },
+    Row {
+        listed: "$c $t",
+        plan: "(select (and (eq $t \"Ex\") true) DEPT)",
+        steps: "1 split split-and /0\n2 select select-true /0/0\n",
+        rewritten: "(select (eq $t \"Ex\") DEPT)",
+    },
+    Row {
+        listed: "$c $t $u",
+        plan: "(select (eq $t \"Ex\") (assign (($u $c)) DEPT))",
+        steps: "1 select select-below-assign /0\n",
+        rewritten: "(assign (($u $c)) (select (eq $t \"Ex\") DEPT))",
+    },
+    Row {
+        listed: "$t",
+        plan: "(select (eq $t \"Ex\") (project ($t) DEPT))",
+        steps: "1 select select-below-project /0\n",
+        rewritten: "(project ($t) (select (eq $t \"Ex\") DEPT))",
+    },
+    Row {
+        listed: "$c $t $u",
+        plan: "(select (eq $t \"Ex\") (unnest $u (range 1 2) DEPT))",
+        steps: "1 select select-below-unnest /0\n",
+        rewritten: "(unnest $u (range 1 2) (select (eq $t \"Ex\") DEPT))",
+    },
+    Row {
+        listed: "$c $t $u",
+        plan: "(select (eq $t \"Ex\") (subplan (aggregate (($u (countall))) (nested)) DEPT))",
+        steps: "1 select select-below-subplan /0\n",
+        rewritten: "(subplan (aggregate (($u (countall))) (nested)) (select (eq $t \"Ex\") DEPT))",
+    },
+    Row {
+        listed: "$c $t",
+        plan: "(select (eq $t \"Ex\") (order (($c asc)) DEPT))",
+        steps: "1 select select-below-order /0\n",
+        rewritten: "(order (($c asc)) (select (eq $t \"Ex\") DEPT))",
+    },
+    Row {
+        listed: "$c $t",
+        plan: "(select (eq $t \"Ex\") (distinct DEPT))",
+        steps: "1 select select-below-distinct /0\n",
+        rewritten: "(distinct (select (eq $t \"Ex\") DEPT))",
+    },
+    Row {
+        listed: EMP_AND_DEPT,
+        plan: "(select (eq $id 1) (join (eq $dept $c) SCAN DEPT))",
+        steps: "1 select select-below-join-left /0\n",
+        rewritten: "(join (eq $dept $c) (select (eq $id 1) SCAN) DEPT)",
+    },
+    Row {
+        listed: EMP_AND_DEPT,
+        plan: "(select (eq $t \"Ex\") (join (eq $dept $c) SCAN DEPT))",
+        steps: "1 select select-below-join-right /0\n",
+        rewritten: "(join (eq $dept $c) SCAN (select (eq $t \"Ex\") DEPT))",
+    },
+    Row {
+        listed: EMP_AND_DEPT,
+        plan: "(select (lt $name $t) (join (eq $dept $c) SCAN DEPT))",
+        steps: "1 select select-into-join /0\n",
+        rewritten: "(join (and (eq $dept $c) (lt $name $t)) SCAN DEPT)",
+    },
+    Row {
+        listed: EMP_AND_DEPT,
+        plan: "(select (eq $id 1) (leftjoin (eq $dept $c) SCAN DEPT))",
+        steps: "1 select select-below-leftjoin /0\n",
+        rewritten: "(leftjoin (eq $dept $c) (select (eq $id 1) SCAN) DEPT)",
+    },
+];
+
 #[test]
 fn explains_selects(rt: HostRuntime) -> Result<(), Fail> {
-    let plan = "(select (eq $dept \"X\") SCAN)";
-    explains(&rt, "$id", plan, "", plan)?;
-    let conjunction = "(select (and (eq $dept \"X\") true) SCAN)";
-    let steps = "1 split split-and /0\n2 select select-true /0/0\n";
-    explains(&rt, "$id", conjunction, steps, plan)
+    for row in &SELECTS {
+        explains(&rt, row)?;
+    }
+    Ok(())
 }
+
+const JOINS: [Row<'static>; 4] = [
+    Row {
+        listed: EMP_AND_DEPT,
+        plan: "(order (($id asc)) (select (eq $t \"Ex\") (leftjoin (eq $dept $c) SCAN DEPT)))",
+        steps: "1 join leftjoin-to-join /0/0\n2 join join-cond-right /0/0\n",
+        rewritten: "(order (($id asc)) (join (eq $dept $c) SCAN (select (eq $t \"Ex\") DEPT)))",
+    },
+    Row {
+        listed: EMP_AND_DEPT,
+        plan: "(join (and true (eq $dept $c)) SCAN DEPT)",
+        steps: "1 join drop-true /0\n",
+        rewritten: "(join (eq $dept $c) SCAN DEPT)",
+    },
+    Row {
+        listed: EMP_AND_DEPT,
+        plan: "(join (and (eq $id 1) (eq $dept $c)) SCAN DEPT)",
+        steps: "1 join join-cond-left /0\n",
+        rewritten: "(join (eq $dept $c) (select (eq $id 1) SCAN) DEPT)",
+    },
+    Row {
+        listed: EMP_AND_DEPT,
+        plan: "(leftjoin (and (eq $dept $c) (eq $t \"Ex\")) SCAN DEPT)",
+        steps: "1 join leftjoin-cond-right /0\n",
+        rewritten: "(leftjoin (eq $dept $c) SCAN (select (eq $t \"Ex\") DEPT))",
+    },
+];
 
 #[test]
 fn explains_joins(rt: HostRuntime) -> Result<(), Fail> {
-    let plan =
-        "(order (($id asc)) (select (eq $t \"Ex\") (leftjoin (eq $dept $c) SCAN (scan dept ($c $t)))))";
-    let steps = "1 join leftjoin-to-join /0/0\n2 join join-cond-right /0/0\n";
-    let rewritten =
-        "(order (($id asc)) (join (eq $dept $c) SCAN (select (eq $t \"Ex\") (scan dept ($c $t)))))";
-    explains(&rt, "$id $t", plan, steps, rewritten)
+    for row in &JOINS {
+        explains(&rt, row)?;
+    }
+    Ok(())
+}
+
+/// A balanced tree of 1,023 `and`s.
+fn conjunction(alloc: Global) -> Result<String, Fail> {
+    let mut tree = String::from_str(alloc, "(eq $dept $c)")?;
+    for _ in 0..10 {
+        tree = format!(in alloc; "(and {tree} {tree})")?;
+    }
+    Ok(tree)
+}
+
+/// The condition is put back nested to the right, a thousand deep.
+#[test]
+fn explains_large_conditions(rt: HostRuntime) -> Result<(), Fail> {
+    let alloc = rt.alloc();
+    let tree = conjunction(alloc)?;
+    let plan = format!(in alloc; "(join (and true {tree}) SCAN DEPT)")?;
+    let file = dept_file(alloc, EMP_AND_DEPT, plan.as_str())?;
+    let mut case = Case::of_plan("explain p", file.as_str());
+    case.room = 200_000;
+    let left = serve(alloc, &case)?;
+    assert_eq!(&rt; left.code, 0);
+    assert!(&rt;
+        left.out
+            .bytes()
+            .starts_with(b"trace\n1 join drop-true /0\nplan\n")
+    );
+    Ok(())
 }
 
 #[test]
 fn explains_no_refused_plan(rt: HostRuntime) -> Result<(), Fail> {
-    let file = "(algebricks 1 (dataset t \"t.csv\" (a int)) (result ($a) (project () (scan t ($a)))))";
+    let file =
+        "(algebricks 1 (dataset t \"t.csv\" (a int)) (result ($a) (project () (scan t ($a)))))";
     let refused = "plan refused: NotLive at 42\n";
     expect(&rt, &Case::of_plan("explain p", file), 2, "", refused)?;
-    expect(&rt, &Case::of_words("explain p"), 2, "", "plan refused: Absent at 0\n")
+    let absent = "plan refused: Absent at 0\n";
+    expect(&rt, &Case::of_words("explain p"), 2, "", absent)
 }
