@@ -1,0 +1,4 @@
+pub mod AggOrder
+pub mod Dropped
+pub mod NearlyAlike
+pub mod OrderSound

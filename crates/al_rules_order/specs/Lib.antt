@@ -1,0 +1,2 @@
+pub mod OrderRules
+pub mod OrderCounts
