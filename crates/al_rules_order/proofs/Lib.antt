@@ -1,6 +1,1 @@
-pub mod AggOrder
-pub mod Dropped
-pub mod NearlyAlike
-pub mod OrderSound
-pub mod LimitSound
-pub mod Falls
+pub mod Finding

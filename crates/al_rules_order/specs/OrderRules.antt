@@ -22,17 +22,25 @@ forgets_step _ = false
 unfoldable pub forgets_order : Plan → Bool
 forgets_order p = forgets_step (out-Plan p)
 
--- the operator's input of this number is no order
-abbrev pub HasNoOrder : Plan → ℕ → Type 0
-HasNoOrder p i = (keys : List OrderKey) (x : Plan) → input p i ≡ Some (P.Order keys x) → ⊥
+-- the plan is an order of the rows of `x`
+abbrev pub IsOrder : Plan → Plan → Type 0
+IsOrder p x = (keys : List OrderKey) × (p ≡ P.Order keys x)
 
--- the first of the operator's inputs that is an order has this number, and is one of the rows of `x`
+-- the operator's input of this number is an order of the rows of `x`
+abbrev pub HasOrder : Plan → ℕ → Plan → Type 0
+HasOrder p i x = (y : Plan) × (input p i ≡ Some y) × IsOrder y x
+
+-- the first of the operator's inputs that is an order has this number, and orders the rows of `x`
 abbrev pub IsFirstOrder : Plan → ℕ → Plan → Type 0
-IsFirstOrder p i x = (keys : List OrderKey) × (input p i ≡ Some (P.Order keys x)) × ((j : ℕ) → j < i → HasNoOrder p j)
+IsFirstOrder p i x = HasOrder p i x × ((j : ℕ) → j < i → (y : Plan) → HasOrder p j y → ⊥)
 
 -- an order goes from below an operator that forgets it
 abbrev pub DropOrder : Rewriting
 DropOrder p q = (i : ℕ) × (x : Plan) × (forgets_order p ≡ true) × IsFirstOrder p i x × (q ≡ with_input p i x)
+
+-- the plan is two orders of the rows of `x`
+abbrev pub AreOrders : Plan → Plan → Type 0
+AreOrders p x = (keys : List OrderKey) × (inner : List OrderKey) × (p ≡ P.Order keys (P.Order inner x))
 
 -- an order goes from below an order
 abbrev pub OrderOverOrder : Rewriting
@@ -45,6 +53,13 @@ most = 2 ^ 63 - 1
 -- two limits become one
 abbrev pub LimitOverLimit : Rewriting
 LimitOverLimit p q = (n : ℕ) × (k : ℕ) × (m : ℕ) × (j : ℕ) × (x : Plan) × (p ≡ P.Limit n k (P.Limit m j x)) × (k + j ≤ most) × (q ≡ P.Limit (min n (m - k)) (k + j) x)
+
+-- the plan is a project, or an assign, of the rows of `x`
+abbrev pub IsProject : Plan → Plan → Type 0
+IsProject p x = (vars : List Var) × (p ≡ P.Project vars x)
+
+abbrev pub IsAssign : Plan → Plan → Type 0
+IsAssign p x = (made : List (Var × Expr)) × (p ≡ P.Assign made x)
 
 -- a limit goes below an operator that gives a row for each row
 abbrev pub LimitBelowProject : Rewriting

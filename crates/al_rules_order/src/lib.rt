@@ -1,6 +1,9 @@
 //! The set of rules that drops orders and moves limits down, after Algebricks' rules.
 #![tactic(auto)]
 
+mod limits;
 mod orders;
+mod outcome;
 
-pub use orders::forgets_order;
+pub use limits::{LimitBelowAssign, LimitBelowProject, LimitOverLimit};
+pub use orders::{DropOrder, OrderOverOrder};

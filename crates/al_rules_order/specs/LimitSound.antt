@@ -13,7 +13,7 @@ use Rattle.al_rule.proofs.Alike.{Alike, alike-sym, alike-trans, alike_replaces}
 use Rattle.al_rule.proofs.FitLaws.{in_Limit, out_Limit}
 use Rattle.al_rule.proofs.Passing.{Operator, operator_Assign, operator_Project}
 use Rattle.al_rules_order.specs.OrderRules.{LimitOverLimit, LimitBelowProject, LimitBelowAssign}
-use Rattle.al_rules_order.proofs.Dropped.{Less}
+use Rattle.al_rules_order.specs.Dropped.{Less}
 
 -- ---- two limits
 
@@ -56,10 +56,10 @@ joined n k m j s t p same fit =
     let below = out_Limit m j p top.input in
     let whole = in_Limit s t p (record { input = below.input; root = below.root }) in
     let like = alike-trans (P.Limit s t p) p (P.Limit n k (P.Limit m j p)) (alike_limit s t p below.root)
-        (alike-sym (P.Limit n k (P.Limit m j p)) p (alike-trans (P.Limit n k (P.Limit m j p)) (P.Limit m j p) p (alike_limit n k (P.Limit m j p) top.root) (alike_limit m j p below.root))) in
+    (alike-sym (P.Limit n k (P.Limit m j p)) p (alike-trans (P.Limit n k (P.Limit m j p)) (P.Limit m j p) p (alike_limit n k (P.Limit m j p) top.root) (alike_limit m j p below.root))) in
     alike_replaces (P.Limit s t p) (P.Limit n k (P.Limit m j p)) fit whole like (λ b sets rows fills h.
-        let o = from_Limit s t p b sets [] [] rows h in
-        allows_Limit n k (P.Limit m j p) b sets [] [] rows (take m (drop j o.0), allows_Limit m j p b sets [] [] _ (o.0, o.1, refl), o.2 ∙ sym (same o.0)))
+    let o = from_Limit s t p b sets [] [] rows h in
+    allows_Limit n k (P.Limit m j p) b sets [] [] rows (take m (drop j o.0), allows_Limit m j p b sets [] [] _ (o.0, o.1, refl), o.2 ∙ sym (same o.0)))
 
 pub limit_over_limit : (p q : Plan) → Fit p → LimitOverLimit p q → Replaces q p
 limit_over_limit p q fit (n, k, m, j, x, at, low, to) =

@@ -16,7 +16,7 @@ use Rattle.al_plan.specs.Allows.{Sets, Allows, live, keys_cmp, IsDistinctOf, IsG
 use Rattle.al_plan.proofs.PlanLaws.{allows_Order, allows_Distinct, allows_Group, allows_Join, allows_LeftJoin, allows_Union, allows_Aggregate, from_Distinct, from_Group, from_Join, from_LeftJoin, from_Union, from_Aggregate, from_Order, live-Order}
 use Rattle.al_plan.proofs.Moves.{IsPermutation-filter, IsPermutation-flat_map}
 use Rattle.al_rule.proofs.SelectOrder.{taken_in, one_way, sorted_from_up}
-use Rattle.al_rules_order.proofs.AggOrder.{agg_row-moved}
+use Rattle.al_rules_order.specs.AggOrder.{agg_row-moved}
 
 none_kept : {X : Type 0} (xs : List X) → AllByRecursion (λ x. false ≡ false) xs
 none_kept [] = tt

@@ -83,8 +83,8 @@ lighter_than_order : (keys : List OrderKey) (p : Plan) → Lighter (weighed p) (
 lighter_than_order keys p = subst (Lighter (weighed p)) (sym (weighed-order keys p)) (omega arith, omega arith, omega arith)
 
 pub drop_order : Lightens DropOrder
-drop_order p q (i, x, forgets, (keys, at, first), to) =
-    let (a, is, n) = split_input p i (P.Order keys x) at in
+drop_order p q (i, x, forgets, ((y, there, (keys, is_order)), first), to) =
+    let (a, is, n) = split_input p i (P.Order keys x) (there ∙ ap Some is_order) in
     subst (λ (z : Plan). Lighter (weighed z) (weighed p)) (sym (to ∙ with_split a p (P.Order keys x) x i is n)) (subst (λ (z : Plan). Lighter (weighed (around a x)) (weighed z)) (sym is) (lighter_around a x (P.Order keys x) (lighter_than_order keys x)))
 
 same_sides : (p q x y : Plan) → p ≡ x → q ≡ y → Lighter (weighed y) (weighed x) → Lighter (weighed q) (weighed p)
@@ -97,7 +97,7 @@ order_over_order p q (keys, inner, x, at, to) = same_sides p q (P.Order keys (P.
 two_limits : (n k m j s t : ℕ) (p : Plan) → Lighter (weighed (P.Limit s t p)) (weighed (P.Limit n k (P.Limit m j p)))
 two_limits n k m j s t p =
     subst (λ (w : Weight). Lighter w (weighed (P.Limit n k (P.Limit m j p)))) (sym (weighed-limit s t p))
-        (subst (Lighter (suc (weighed p).0, (weighed p).0 + (weighed p).1)) (sym (weighed-limit n k (P.Limit m j p) ∙ ap (λ (w : Weight). (suc w.0, w.0 + w.1)) (weighed-limit m j p))) (omega arith, omega arith, omega arith))
+    (subst (Lighter (suc (weighed p).0, (weighed p).0 + (weighed p).1)) (sym (weighed-limit n k (P.Limit m j p) ∙ ap (λ (w : Weight). (suc w.0, w.0 + w.1)) (weighed-limit m j p))) (omega arith, omega arith, omega arith))
 
 pub limit_over_limit : Lightens LimitOverLimit
 limit_over_limit p q (n, k, m, j, x, at, low, to) = same_sides p q (P.Limit n k (P.Limit m j x)) (P.Limit (min n (m - k)) (k + j) x) at to (two_limits n k m j (min n (m - k)) (k + j) x)
@@ -106,7 +106,7 @@ limit_over_limit p q (n, k, m, j, x, at, low, to) = same_sides p q (P.Limit n k 
 below_one : (a : Around) → ((p : Plan) → weighed (around a p) ≡ (suc (weighed p).0, (weighed p).1)) → (n k : ℕ) (p : Plan) → Lighter (weighed (around a (P.Limit n k p))) (weighed (P.Limit n k (around a p)))
 below_one a one n k p =
     subst (λ (w : Weight). Lighter w (weighed (P.Limit n k (around a p)))) (sym (one (P.Limit n k p) ∙ ap (λ (w : Weight). (suc w.0, w.1)) (weighed-limit n k p)))
-        (subst (Lighter (suc (suc (weighed p).0), (weighed p).0 + (weighed p).1)) (sym (weighed-limit n k (around a p) ∙ ap (λ (w : Weight). (suc w.0, w.0 + w.1)) (one p))) (omega arith, omega arith, omega arith))
+    (subst (Lighter (suc (suc (weighed p).0), (weighed p).0 + (weighed p).1)) (sym (weighed-limit n k (around a p) ∙ ap (λ (w : Weight). (suc w.0, w.0 + w.1)) (one p))) (omega arith, omega arith, omega arith))
 
 pub limit_below_project : Lightens LimitBelowProject
 limit_below_project p q (n, k, vars, x, at, to) = same_sides p q (P.Limit n k (P.Project vars x)) (P.Project vars (P.Limit n k x)) at to (below_one (project vars) (λ y. weighed-around (project vars) y) n k x)

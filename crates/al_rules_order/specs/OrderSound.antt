@@ -14,8 +14,8 @@ use Rattle.al_rule.proofs.Alike.{Alike, alike_replaces}
 use Rattle.al_rule.proofs.FitLaws.{out_Join, out_LeftJoin, out_Group, out_Distinct, out_Union, out_Aggregate, out_Order, over_Join_left, over_Join_right, over_LeftJoin_left, over_LeftJoin_right, over_Group, over_Distinct, over_Union_left, over_Union_right, over_Aggregate, over_Order}
 use Rattle.al_rule.proofs.PlaceLaws.{Around, around, layer, number, out_around, split_input, with_split, fit_input, assign, select, project, unnest, subplan, join_left, join_right, left_join_left, left_join_right, group, distinct, union_left, union_right, aggregate, order, limit, check, result}
 use Rattle.al_rules_order.specs.OrderRules.{forgets_order, forgets_step, DropOrder, OrderOverOrder}
-use Rattle.al_rules_order.proofs.NearlyAlike.{below_order, nearly-refl, nearly-Join, nearly-LeftJoin, nearly-Group, nearly-Distinct, nearly-Union, nearly-Aggregate, nearly-Order}
-use Rattle.al_rules_order.proofs.Dropped.{Less, under_distinct, under_group, under_aggregate, under_join_left, under_join_right, under_left_join_left, under_left_join_right, under_union_left, under_union_right, over_order}
+use Rattle.al_rules_order.specs.NearlyAlike.{below_order, nearly-refl, nearly-Join, nearly-LeftJoin, nearly-Group, nearly-Distinct, nearly-Union, nearly-Aggregate, nearly-Order}
+use Rattle.al_rules_order.specs.Dropped.{Less, under_distinct, under_group, under_aggregate, under_join_left, under_join_right, under_left_join_left, under_left_join_right, under_union_left, under_union_right, over_order}
 
 -- ---- an order goes from below an operator that forgets it
 
@@ -79,8 +79,8 @@ dropped a keys p t fit =
     alike_replaces (around a p) (around a (P.Order keys p)) fit h.0 (alike a keys p t) (λ b sets rows fills k. h.1 b sets rows k)
 
 pub drop_order : (p q : Plan) → Fit p → DropOrder p q → Replaces q p
-drop_order p q fit (i, x, forgets, (keys, at, first), to) =
-    let (a, is, n) = split_input p i (P.Order keys x) at in
+drop_order p q fit (i, x, forgets, ((y, there, (keys, is_order)), first), to) =
+    let (a, is, n) = split_input p i (P.Order keys x) (there ∙ ap Some is_order) in
     let t : forgets_step (layer a (P.Order keys x)) ≡ true = sym (forgets_around a (P.Order keys x)) ∙ ap forgets_order (sym is) ∙ forgets in
     let whole : Replaces (around a x) (around a (P.Order keys x)) = dropped a keys x t (subst Fit is fit) in
     subst (λ (z : Plan). Replaces z p) (sym (to ∙ with_split a p (P.Order keys x) x i is n)) (subst (Replaces (around a x)) (sym is) whole)
