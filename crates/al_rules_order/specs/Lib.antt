@@ -9,3 +9,4 @@ pub mod OrderSound
 pub mod LimitSound
 pub mod Falls
 pub mod Shown
+pub mod Bare

@@ -4,6 +4,11 @@
 mod limits;
 mod orders;
 mod outcome;
+mod set;
 
 pub use limits::{LimitBelowAssign, LimitBelowProject, LimitOverLimit};
 pub use orders::{DropOrder, OrderOverOrder};
+pub use set::OrderSet;
+
+#[cfg(test)]
+mod tests;
