@@ -1,11 +1,13 @@
 -- Operators that name no variables are bare over bare inputs.
-use Rattle.std.proofs.Common.{◌≡◌, ◌≤◌, ℕ, Bool, List, [], ◌∷◌, ◌++◌, map, length, refl, ap, sym, subst, ◌∙◌, Option, None, arith}
+use Rattle.std.proofs.Common.{◌≡◌, ℕ, List, [], ◌++◌, refl, ap, sym, subst, ◌∙◌, arith}
 use Rattle.al_plan.specs.declared.expr.Var.{Var}
-use Rattle.al_plan.specs.declared.plan.Plan.{Plan, map-Plan, roll-Plan}
+use Rattle.al_plan.specs.declared.expr.Expr.{Expr}
+use Rattle.al_plan.specs.declared.plan.OrderKey.{OrderKey}
+use Rattle.al_plan.specs.declared.plan.Plan.{Plan}
 use Rattle.al_plan.specs.declared.plan.Plan.TheVariants as P
 use Rattle.al_plan.specs.declared.plan.Plan.TheOpen as L
 use Rattle.al_plan.specs.Allows.{live}
-use Rattle.al_plan.specs.Refines.{Fit, makes, result_of, NoTwice, AreLive, AreOver, AtMost64}
+use Rattle.al_plan.specs.Refines.{makes, NoTwice, AtMost64}
 use Rattle.al_plan.proofs.PlanLaws.{live-Empty, makes-Empty, result-Empty, live-Order, makes-Order, result-Order, live-Distinct, makes-Distinct, result-Distinct, live-Limit, makes-Limit, result-Limit, live-Project, makes-Project, result-Project, live-Assign, makes-Assign, result-Assign, live-Union, makes-Union, result-Union}
 use Rattle.al_rule.proofs.RuleFit.{fit_in}
 use Rattle.al_rule.proofs.FitLaws.{in_Order, in_Distinct, in_Limit, in_Project, in_Assign, in_Union}
@@ -39,3 +41,17 @@ pub bare_union : (l r : Plan) → IsBare l → IsBare r → IsBare (P.Union [] [
 bare_union l r h g =
     let made : makes l ++ (makes r ++ []) ≡ [] = (λ i. h.made i ++ (g.made i ++ [])) in
     record { fit = in_Union [] [] [] l r (record { left = h.fit; left_root = h.root; right = g.fit; right_root = g.root; left_listed = tt; right_listed = tt; left_width = refl; right_width = refl; thin = none_wide [] refl; once = subst NoTwice (sym made) tt }); root = result-Union [] [] [] l r; made = makes-Union [] [] [] l r ∙ made; vars = live-Union [] [] [] l r [] }
+
+-- ---- the same where lists are told to be empty
+
+pub none_ordered : (keys : List OrderKey) (p : Plan) → keys ≡ [] → IsBare p → IsBare (P.Order keys p)
+none_ordered keys p e h = subst (λ (ks : List OrderKey). IsBare (P.Order ks p)) (sym e) (bare_order p h)
+
+pub none_listed : (vars : List Var) (p : Plan) → vars ≡ [] → IsBare p → IsBare (P.Project vars p)
+none_listed vars p e h = subst (λ (vs : List Var). IsBare (P.Project vs p)) (sym e) (bare_project p h)
+
+pub none_made : (made : List (Var × Expr)) (p : Plan) → made ≡ [] → IsBare p → IsBare (P.Assign made p)
+none_made made p e h = subst (λ (ms : List (Var × Expr)). IsBare (P.Assign ms p)) (sym e) (bare_assign p h)
+
+pub none_renamed : (made ls rs : List Var) (l r : Plan) → made ≡ [] → ls ≡ [] → rs ≡ [] → IsBare l → IsBare r → IsBare (P.Union made ls rs l r)
+none_renamed made ls rs l r e f g h k = subst (λ (vs : List Var). IsBare (P.Union vs ls rs l r)) (sym e) (subst (λ (vs : List Var). IsBare (P.Union [] vs rs l r)) (sym f) (subst (λ (vs : List Var). IsBare (P.Union [] [] vs l r)) (sym g) (bare_union l r h k)))

@@ -1,6 +1,6 @@
 -- What an operator that forgets the order of its input's rows allows, it allows over an order too.
-use Rattle.std.proofs.Common.{◌≡◌, Bool, true, false, List, [], ◌∷◌, ◌++◌, map, filter, flat_map, refl, ap, sym, subst, ◌∙◌, append-nil, arith}
-use Rattle.std.specs.List.{All, AllByRecursion, AllZip, Contains}
+use Rattle.std.proofs.Common.{◌≡◌, Bool, false, List, [], ◌∷◌, map, flat_map, refl, ap, sym, subst, ◌∙◌, append-nil, arith}
+use Rattle.std.specs.List.{AllByRecursion, AllZip, Contains}
 use Rattle.std.specs.List.Sorted.{IsPermutation, IsSorted}
 use Rattle.std.specs.Ordering.{is_lt}
 use Rattle.std.proofs.lemmas.List.Elements.{All-weaker}
@@ -12,7 +12,7 @@ use Rattle.al_plan.specs.declared.plan.OrderKey.{OrderKey}
 use Rattle.al_plan.specs.declared.plan.Plan.{Plan}
 use Rattle.al_plan.specs.declared.plan.Plan.TheVariants as P
 use Rattle.al_plan.specs.Eval.{Env, holds}
-use Rattle.al_plan.specs.Allows.{Sets, Allows, live, keys_cmp, IsDistinctOf, IsGrouping, Group, rows_in, key_of, new_of, with_new, Gives, pairs, left_pairs, matches, or_alone, beside, nulls, renamed, agg_row}
+use Rattle.al_plan.specs.Allows.{Sets, Allows, live, keys_cmp, IsGrouping, Group, rows_in, key_of, new_of, with_new, Gives, pairs, left_pairs, matches, or_alone, beside, nulls, renamed}
 use Rattle.al_plan.proofs.PlanLaws.{allows_Order, allows_Distinct, allows_Group, allows_Join, allows_LeftJoin, allows_Union, allows_Aggregate, from_Distinct, from_Group, from_Join, from_LeftJoin, from_Union, from_Aggregate, from_Order, live-Order}
 use Rattle.al_plan.proofs.Moves.{IsPermutation-filter, IsPermutation-flat_map}
 use Rattle.al_rule.proofs.SelectOrder.{taken_in, one_way, sorted_from_up}

@@ -1,7 +1,5 @@
 -- The operators, or those below limits, become fewer wherever a rule is applied.
-use Rattle.std.proofs.Common.{◌≡◌, ◌⊎◌, inl, inr, ◌<◌, ◌≤◌, ◌+◌, ◌-◌, ℕ, suc, min, List, [], ◌∷◌, refl, ap, sym, subst, ◌∙◌, Option, Some, arith}
-use Rattle.al_plan.specs.declared.expr.Var.{Var}
-use Rattle.al_plan.specs.declared.expr.Expr.{Expr}
+use Rattle.std.proofs.Common.{◌≡◌, ◌⊎◌, inl, inr, ◌<◌, ◌≤◌, ◌+◌, ◌-◌, ℕ, suc, min, List, [], ◌∷◌, ap, sym, subst, ◌∙◌, Some, arith}
 use Rattle.al_plan.specs.declared.plan.OrderKey.{OrderKey}
 use Rattle.al_plan.specs.declared.plan.Plan.{Plan, map-Plan, roll-Plan, fold-roll-Plan}
 use Rattle.al_plan.specs.declared.plan.Plan.TheVariants as P

@@ -1,12 +1,12 @@
 -- The rules on limits are sound.
-use Rattle.std.proofs.Common.{◌≡◌, ◌≤◌, ℕ, zero, suc, ◌+◌, ◌-◌, min, Bool, List, [], ◌∷◌, map, take, drop, refl, ap, sym, subst, ◌∙◌, Option, None, arith}
+use Rattle.std.proofs.Common.{◌≡◌, ℕ, zero, suc, ◌+◌, ◌-◌, min, List, [], ◌∷◌, map, take, drop, refl, ap, sym, subst, ◌∙◌, None, arith}
 use Rattle.std.proofs.lemmas.List.{drop-drop, take-map, drop-map}
 use Rattle.al_plan.specs.declared.expr.Var.{Var}
 use Rattle.al_plan.specs.declared.expr.Expr.{Expr}
 use Rattle.al_plan.specs.declared.plan.Plan.{Plan}
 use Rattle.al_plan.specs.declared.plan.Plan.TheVariants as P
 use Rattle.al_plan.specs.Eval.{Env}
-use Rattle.al_plan.specs.Allows.{Sets, Allows, live, cut, assigned}
+use Rattle.al_plan.specs.Allows.{cut, assigned}
 use Rattle.al_plan.specs.Refines.{Fit, Replaces, result_of}
 use Rattle.al_plan.proofs.PlanLaws.{allows_Limit, allows_Project, allows_Assign, from_Limit, from_Project, from_Assign, live-Limit, ordered-Limit, scans-Limit, makes-Limit, result-Limit, faults-Limit}
 use Rattle.al_rule.proofs.Alike.{Alike, alike-sym, alike-trans, alike_replaces}

@@ -1,5 +1,5 @@
 -- Operators that forget the order of their input's rows are alike over an ordered input and over one that isn't.
-use Rattle.std.proofs.Common.{◌≡◌, ◌⊎◌, List, [], ◌∷◌, ◌++◌, map, refl, ap, sym, ◌∙◌, Option, None}
+use Rattle.std.proofs.Common.{◌≡◌, ◌⊎◌, List, [], ◌++◌, map, refl, ap, sym, ◌∙◌}
 use Rattle.al_plan.specs.declared.expr.Var.{Var}
 use Rattle.al_plan.specs.declared.expr.Expr.{Expr}
 use Rattle.al_plan.specs.declared.plan.AggCall.{AggCall}
@@ -8,7 +8,7 @@ use Rattle.al_plan.specs.declared.plan.Plan.{Plan}
 use Rattle.al_plan.specs.declared.plan.Plan.TheVariants as P
 use Rattle.al_plan.specs.Eval.{Bytes}
 use Rattle.al_plan.specs.Allows.{Sets, Faults, live}
-use Rattle.al_plan.specs.Refines.{scans, makes, result_of}
+use Rattle.al_plan.specs.Refines.{scans, makes}
 use Rattle.al_plan.proofs.PlanLaws.{live-Aggregate, ordered-Aggregate, scans-Aggregate, makes-Aggregate, result-Aggregate, faults-Aggregate, live-Distinct, ordered-Distinct, scans-Distinct, makes-Distinct, result-Distinct, faults-Distinct, live-Group, ordered-Group, scans-Group, makes-Group, result-Group, faults-Group, live-Join, ordered-Join, scans-Join, makes-Join, result-Join, faults-Join, live-LeftJoin, ordered-LeftJoin, scans-LeftJoin, makes-LeftJoin, result-LeftJoin, faults-LeftJoin, live-Order, ordered-Order, scans-Order, makes-Order, result-Order, faults-Order, live-Union, ordered-Union, scans-Union, makes-Union, result-Union, faults-Union}
 use Rattle.al_rule.proofs.Alike.{Alike}
 

@@ -1,18 +1,14 @@
 -- The rules that drop orders are sound.
-use Rattle.std.proofs.Common.{◌≡◌, ◌≢◌, ℕ, Bool, true, false, List, [], ◌∷◌, refl, ap, sym, subst, ◌∙◌, Option, Some, None}
-use Rattle.al_plan.specs.declared.expr.Var.{Var}
-use Rattle.al_plan.specs.declared.expr.Expr.{Expr}
-use Rattle.al_plan.specs.declared.plan.AggCall.{AggCall}
+use Rattle.std.proofs.Common.{◌≡◌, true, false, List, [], ap, sym, subst, ◌∙◌, Some, None}
 use Rattle.al_plan.specs.declared.plan.OrderKey.{OrderKey}
-use Rattle.al_plan.specs.declared.plan.Plan.{Plan, out-Plan}
+use Rattle.al_plan.specs.declared.plan.Plan.{Plan}
 use Rattle.al_plan.specs.declared.plan.Plan.TheVariants as P
 use Rattle.al_plan.specs.Refines.{Fit, Replaces, makes, result_of}
 use Rattle.al_plan.specs.Allows.{live}
 use Rattle.al_plan.proofs.PlanLaws.{live-Order, makes-Order}
-use Rattle.al_rule.specs.Places.{input, with_input}
 use Rattle.al_rule.proofs.Alike.{Alike, alike_replaces}
-use Rattle.al_rule.proofs.FitLaws.{out_Join, out_LeftJoin, out_Group, out_Distinct, out_Union, out_Aggregate, out_Order, over_Join_left, over_Join_right, over_LeftJoin_left, over_LeftJoin_right, over_Group, over_Distinct, over_Union_left, over_Union_right, over_Aggregate, over_Order}
-use Rattle.al_rule.proofs.PlaceLaws.{Around, around, layer, number, out_around, split_input, with_split, fit_input, assign, select, project, unnest, subplan, join_left, join_right, left_join_left, left_join_right, group, distinct, union_left, union_right, aggregate, order, limit, check, result}
+use Rattle.al_rule.proofs.FitLaws.{out_Order, over_Join_left, over_Join_right, over_LeftJoin_left, over_LeftJoin_right, over_Group, over_Distinct, over_Union_left, over_Union_right, over_Aggregate, over_Order}
+use Rattle.al_rule.proofs.PlaceLaws.{Around, around, layer, out_around, split_input, with_split, fit_input, assign, select, project, unnest, subplan, join_left, join_right, left_join_left, left_join_right, group, distinct, union_left, union_right, aggregate, order, limit, check, result}
 use Rattle.al_rules_order.specs.OrderRules.{forgets_order, forgets_step, DropOrder, OrderOverOrder}
 use Rattle.al_rules_order.specs.NearlyAlike.{below_order, nearly-refl, nearly-Join, nearly-LeftJoin, nearly-Group, nearly-Distinct, nearly-Union, nearly-Aggregate, nearly-Order}
 use Rattle.al_rules_order.specs.Dropped.{Less, under_distinct, under_group, under_aggregate, under_join_left, under_join_right, under_left_join_left, under_left_join_right, under_union_left, under_union_right, over_order}

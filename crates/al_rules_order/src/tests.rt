@@ -28,7 +28,6 @@ fn empty(alloc: Global) -> Result<Boxed<Plan>, NoMemory>
 }
 
 /// The operator over a plan.
-#[tactic(auto, using(crate::proofs::BareLaws::bare_order, crate::proofs::BareLaws::bare_distinct, crate::proofs::BareLaws::bare_limit, crate::proofs::BareLaws::bare_project, crate::proofs::BareLaws::bare_assign, crate::proofs::BareLaws::bare_union))]
 fn over(alloc: Global, op: Bare, input: Boxed<Plan>) -> Result<Plan, NoMemory>
     requires { IsBare input }
     ensures { IfOk result (λ p. IsBare p) }
