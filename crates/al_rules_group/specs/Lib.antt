@@ -1,0 +1,3 @@
+pub mod GroupRules
+pub mod Differing
+pub mod DistinctSound
