@@ -35,17 +35,20 @@ without_project made vars p fit =
     let over : AllByRecursion (λ m. AreOver vars (agg_exprs m.1)) made = subst (λ (vs : List Var). AllByRecursion (λ (m : Var × AggCall). AreOver vs (agg_exprs m.1)) made) (live-Project vars p []) top.over in
     let whole = in_Aggregate made p (record { input = below.input; root = below.root; over = wider_calls (live p []) vars below.listed made over; thin = top.thin; once = subst (λ (vs : List Var). NoTwice (vs ++ map (λ m. m.0) made)) (makes-Project vars p) top.once }) in
     let like : Alike (P.Aggregate made p) (P.Aggregate made (P.Project vars p)) = record {
-          vars = live-Aggregate made p [] ∙ sym (live-Aggregate made (P.Project vars p) []);
-          order = ordered-Aggregate made p ∙ sym (ordered-Aggregate made (P.Project vars p));
-          scanned = scans-Aggregate made p ∙ sym (scans-Project vars p) ∙ sym (scans-Aggregate made (P.Project vars p));
-          made = makes-Aggregate made p ∙ ap (λ (vs : List Var). vs ++ map (λ m. m.0) made) (sym (makes-Project vars p)) ∙ sym (makes-Aggregate made (P.Project vars p));
-          root = result-Aggregate made p ∙ sym (result-Aggregate made (P.Project vars p));
-          faults = λ sets name. faults-Aggregate made p sets [] [] name ∙ sym (faults-Project vars p sets [] [] name) ∙ sym (faults-Aggregate made (P.Project vars p) sets [] [] name);
-        } in
+      vars = live-Aggregate made p [] ∙ sym (live-Aggregate made (P.Project vars p) []);
+      order = ordered-Aggregate made p ∙ sym (ordered-Aggregate made (P.Project vars p));
+      scanned = scans-Aggregate made p ∙ sym (scans-Project vars p) ∙ sym (scans-Aggregate made (P.Project vars p));
+      made = makes-Aggregate made p ∙ ap (λ (vs : List Var). vs ++ map (λ m. m.0) made) (sym (makes-Project vars p)) ∙ sym (makes-Aggregate made (P.Project vars p));
+      root = result-Aggregate made p ∙ sym (result-Aggregate made (P.Project vars p));
+      faults = λ sets name. faults-Aggregate made p sets [] [] name ∙ sym (faults-Project vars p sets [] [] name) ∙ sym (faults-Aggregate made (P.Project vars p) sets [] [] name);
+    } in
     alike_replaces (P.Aggregate made p) (P.Aggregate made (P.Project vars p)) fit whole like (λ b sets rows fills k.
-        let o = from_Aggregate made p b sets [] [] rows k in
-        allows_Aggregate made (P.Project vars p) b sets [] [] rows (map (cut vars) o.0, allows_Project vars p b sets [] [] _ (o.0, o.1, refl),
-            o.2 ∙ ap (λ (r : Env). r ∷ []) (sym (agg_row-seen (cut vars) made o.0 (sees_calls (cut vars) vars (sees_cut vars) made over)))))
+    let o = from_Aggregate made p b sets [] [] rows k in
+    allows_Aggregate made (P.Project vars p) b sets [] [] rows (
+      map (cut vars) o.0,
+      allows_Project vars p b sets [] [] _ (o.0, o.1, refl),
+      o.2 ∙ ap (λ (r : Env). r ∷ []) (sym (agg_row-seen (cut vars) made o.0 (sees_calls (cut vars) vars (sees_cut vars) made over))),
+    ))
 
 pub aggregate_over_project : (p q : Plan) → Fit p → AggregateOverProject p q → Replaces q p
 aggregate_over_project p q fit (made, vars, x, at, to) =

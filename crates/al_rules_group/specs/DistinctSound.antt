@@ -22,13 +22,13 @@ without_distinct : (q : Plan) → ordered q ≡ false → (Fit q → (b : Bool) 
 without_distinct q free once fit =
     let h = out_Distinct q fit in
     let like : Alike q (P.Distinct q) = record {
-          vars = sym (live-Distinct q []);
-          order = free ∙ sym (ordered-Distinct q);
-          scanned = sym (scans-Distinct q);
-          made = sym (makes-Distinct q);
-          root = h.root ∙ sym (result-Distinct q);
-          faults = λ sets name. sym (faults-Distinct q sets [] [] name);
-        } in
+      vars = sym (live-Distinct q []);
+      order = free ∙ sym (ordered-Distinct q);
+      scanned = sym (scans-Distinct q);
+      made = sym (makes-Distinct q);
+      root = h.root ∙ sym (result-Distinct q);
+      faults = λ sets name. sym (faults-Distinct q sets [] [] name);
+    } in
     alike_replaces q (P.Distinct q) fit h.input like (λ b sets rows fills k. allows_Distinct q b sets [] [] rows (rows, k, record { within = All-contains_itself rows; all = All-contains_itself rows; once = once h.input b sets rows k }))
 
 in_place : (p q x y : Plan) → p ≡ x → q ≡ y → Fit p → (Fit x → Replaces y x) → Replaces q p
@@ -41,7 +41,7 @@ distinct_over_distinct p q fit (x, at, to) =
 pub distinct_over_group : (p q : Plan) → Fit p → DistinctOverGroup p q → Replaces q p
 distinct_over_group p q fit (keys, n, x, at, to) =
     in_place p q (P.Distinct (P.Group keys n x)) (P.Group keys n x) at to fit (without_distinct (P.Group keys n x) (ordered-Group keys n x)
-        (λ f. group_once keys n x (twice_right (makes n) (map (λ k. k.0) keys) (twice_right (makes x) _ (out_Group keys n x f).once))))
+    (λ f. group_once keys n x (twice_right (makes n) (map (λ k. k.0) keys) (twice_right (makes x) _ (out_Group keys n x f).once))))
 
 one_row : (r : Env) → AllPairs ◌≢◌ (r ∷ [])
 one_row r = pairs_from_apart ◌≢◌ (r ∷ []) (tt, tt)
@@ -49,4 +49,4 @@ one_row r = pairs_from_apart ◌≢◌ (r ∷ []) (tt, tt)
 pub distinct_over_aggregate : (p q : Plan) → Fit p → DistinctOverAggregate p q → Replaces q p
 distinct_over_aggregate p q fit (made, x, at, to) =
     in_place p q (P.Distinct (P.Aggregate made x)) (P.Aggregate made x) at to fit (without_distinct (P.Aggregate made x) (ordered-Aggregate made x)
-        (λ f b sets rows k. let o = from_Aggregate made x b sets [] [] rows k in subst (AllPairs ◌≢◌) (sym o.2) (one_row (agg_row made o.0))))
+    (λ f b sets rows k. let o = from_Aggregate made x b sets [] [] rows k in subst (AllPairs ◌≢◌) (sym o.2) (one_row (agg_row made o.0))))

@@ -69,8 +69,8 @@ forget-within d own r w m i q = (by_cases (d q) (λ t. lost d r q t ∙ sym (w q
 new-forget : (d : Bytes → Bool) (own : List Var) (vs : List Value) (r : Env) → Misses d own → forget d (with_new own vs r) ≡ with_new own vs (forget d r)
 new-forget d own vs r m i q =
     (by_cases (d q)
-        (λ t. lost d (with_new own vs r) q t ∙ sym (ap (λ b. if b then bind own vs q else forget d r q) (m q t) ∙ lost d r q t))
-        (λ f. kept d (with_new own vs r) q f ∙ ap (λ x. if is_among own q then bind own vs q else x) (sym (kept d r q f)))) i
+    (λ t. lost d (with_new own vs r) q t ∙ sym (ap (λ b. if b then bind own vs q else forget d r q) (m q t) ∙ lost d r q t))
+    (λ f. kept d (with_new own vs r) q f ∙ ap (λ x. if is_among own q then bind own vs q else x) (sym (kept d r q f)))) i
 
 made-values : (d : Bytes → Bool) (vars : List Var) (made : List (Var × Expr)) (r : Env) → Misses d vars → AreOver vars (map (λ m. m.1) made) → map (λ m. eval m.1 (forget d r)) made ≡ map (λ m. eval m.1 r) made
 made-values d vars [] r m h = refl
@@ -82,8 +82,8 @@ assigned-forget d vars made r m h own = new-forget d (map (λ m. m.0) made) (map
 cut-forget : (d : Bytes → Bool) (vars : List Var) (r : Env) → forget d (cut vars r) ≡ cut vars (forget d r)
 cut-forget d vars r i q =
     (by_cases (d q)
-        (λ t. lost d (cut vars r) q t ∙ by_cases (is_among vars q) (λ u. sym (ap (λ b. if b then forget d r q else V.Null) u ∙ lost d r q t)) (λ u. sym (ap (λ b. if b then forget d r q else V.Null) u)))
-        (λ f. kept d (cut vars r) q f ∙ ap (λ x. if is_among vars q then x else V.Null) (sym (kept d r q f)))) i
+    (λ t. lost d (cut vars r) q t ∙ by_cases (is_among vars q) (λ u. sym (ap (λ b. if b then forget d r q else V.Null) u ∙ lost d r q t)) (λ u. sym (ap (λ b. if b then forget d r q else V.Null) u)))
+    (λ f. kept d (cut vars r) q f ∙ ap (λ x. if is_among vars q then x else V.Null) (sym (kept d r q f)))) i
 
 items-forget : (d : Bytes → Bool) (vars : List Var) (g : Generator) (r : Env) → Misses d vars → AreOver vars (item_exprs g) → items g (forget d r) ≡ items g r
 unfolding items
@@ -166,8 +166,12 @@ module _ {S : Type 0} (up : S → Plan) (ih : (s : S) → Forgets (up s)) (there
   step (L.Group keys k s) h e m o = absurd (no h.1)
   step (L.Distinct s) h e m o = absurd (no e)
   step (L.Union made ls rs l r) h e m o = absurd (no h.2)
-  step (L.Aggregate made s) h e m o = let own = map (λ m. m.0) made in let low = left_part d (makes (up s)) own m in (map (forget d) o.0, ih s there h.0.0 e d t low b sets given known outer o.0 o.1, ap (map (forget d)) o.2 ∙ ap (λ (r : Env). r ∷ []) (forget-within d own (agg_row made o.0) (within-bind own _) (right_part d (makes (up s)) own m)
-      ∙ sym (agg_row-seen (forget d) made o.0 (sees_calls (forget d) (live (up s) there) (sees_forget d (live (up s) there) (lives s h.0.0 low)) made h.1))))
+  step (L.Aggregate made s) h e m o = let own = map (λ m. m.0) made in let low = left_part d (makes (up s)) own m in (
+    map (forget d) o.0,
+    ih s there h.0.0 e d t low b sets given known outer o.0 o.1,
+    ap (map (forget d)) o.2 ∙ ap (λ (r : Env). r ∷ []) (forget-within d own (agg_row made o.0) (within-bind own _) (right_part d (makes (up s)) own m)
+        ∙ sym (agg_row-seen (forget d) made o.0 (sees_calls (forget d) (live (up s) there) (sees_forget d (live (up s) there) (lives s h.0.0 low)) made h.1))),
+  )
   step (L.Order keys s) h e m o = (map (forget d) o.0, ih s there h.0.0 e d t m b sets given known outer o.0 o.1, (IsPermutation-map (forget d) o.0 rows o.2.0, IsSorted-map (forget d) (keys_cmp keys) rows (subst (λ (R : Env → Env → Ordering). IsSorted R rows) (λ i x y. sym (keys-forget d (live (up s) there) keys x y (lives s h.0.0 m) h.1) i) o.2.1)))
   step (L.Limit n k s) h e m o = (map (forget d) o.0, ih s there h.0 e d t m b sets given known outer o.0 o.1, ap (map (forget d)) o.2 ∙ map-take-drop (forget d) n k o.0)
   step (L.Check own c s) h e m o = absurd (no h.1)
@@ -176,11 +180,11 @@ module _ {S : Type 0} (up : S → Plan) (ih : (s : S) → Forgets (up s)) (there
 layer_forgets : {S : Type 0} (up : S → Plan) → ((s : S) → Forgets (up s)) → (y : L.Plan-F S) → Forgets (roll-Plan (map-Plan S Plan up y))
 layer_forgets {S} up ih y there fit e d t m b sets given known outer rows o =
     enroll (map-Plan S Plan up y) b sets known (map (forget d) outer) (map (forget d) rows)
-        (step up ih there d t b sets given known outer rows y
-            (subst (λ (z : Bool → List Var → Type 0). z true there) (each-roll (map-Plan S Plan up y)) fit)
-            (sym (distinct-roll (map-Plan S Plan up y)) ∙ e)
-            (subst (Misses d) (makes-roll (map-Plan S Plan up y)) m)
-            (unroll (map-Plan S Plan up y) b sets given outer rows o))
+    (step up ih there d t b sets given known outer rows y
+    (subst (λ (z : Bool → List Var → Type 0). z true there) (each-roll (map-Plan S Plan up y)) fit)
+    (sym (distinct-roll (map-Plan S Plan up y)) ∙ e)
+    (subst (Misses d) (makes-roll (map-Plan S Plan up y)) m)
+    (unroll (map-Plan S Plan up y) b sets given outer rows o))
 
 -- what a nested plan without a distinct allows over some outer rows it allows, cut, over the rows cut of variables that are not given to it
 pub forgets : (p : Plan) → Forgets p

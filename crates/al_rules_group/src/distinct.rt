@@ -21,7 +21,8 @@ pub fn has_distinct(p: &Plan) -> bool
         Plan::Subplan { nested, input } => has_distinct(nested.get()) || has_distinct(input.get()),
         Plan::Join { left, right, .. } => has_distinct(left.get()) || has_distinct(right.get()),
         Plan::LeftJoin { left, right, .. } => has_distinct(left.get()) || has_distinct(right.get()),
-        Plan::Group { nested, input, .. } => has_distinct(nested.get()) || has_distinct(input.get()),
+        Plan::Group { nested, input, .. } => has_distinct(nested.get())
+            || has_distinct(input.get()),
         Plan::Distinct { .. } => true,
         Plan::Union { left, right, .. } => has_distinct(left.get()) || has_distinct(right.get()),
         Plan::Aggregate { input, .. } => has_distinct(input.get()),
