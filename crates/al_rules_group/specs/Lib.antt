@@ -1,6 +1,7 @@
 pub mod GroupRules
 pub mod GroupCounts
 pub mod Outcomes
+pub mod Shapes
 pub mod Differing
 pub mod DistinctSound
 pub mod Seeing

@@ -2,5 +2,13 @@
 #![tactic(auto)]
 
 mod distinct;
+mod distincts;
+mod outcome;
+mod projects;
+mod set;
+mod shape;
 
 pub use distinct::has_distinct;
+pub use distincts::{DistinctOverAggregate, DistinctOverDistinct, DistinctOverGroup};
+pub use projects::{AggregateOverProject, GroupOverProject};
+pub use set::GroupSet;
