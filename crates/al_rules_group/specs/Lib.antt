@@ -1,0 +1,13 @@
+pub mod GroupRules
+pub mod GroupCounts
+pub mod Outcomes
+pub mod Shapes
+pub mod Differing
+pub mod DistinctSound
+pub mod Seeing
+pub mod AggregateSound
+pub mod Forget
+pub mod Widening
+pub mod GroupSound
+pub mod Falls
+pub mod GroupSet

@@ -1,0 +1,7 @@
+use Rattle.al_rules_order.specs.OrderRules as meaning
+use Rattle.al_rules_order.specs.Shown as shown
+use Rattle.al_rules_order.proofs.Finding.{refined}
+use Rattle.al_rules_order.proofs.limits.LimitBelowProjectRule.apply.Goals as goal
+
+pub returns-clause-refines : goal.returns-clause-refines
+returns-clause-refines c = refined meaning.LimitBelowProject shown.limit_below_project c.args.p c.project_of_limit-made.result c.project_of_limit-made.ensures c.outcome.result c.outcome.ensures

@@ -1,0 +1,7 @@
+use Rattle.al_rules_order.specs.OrderRules as meaning
+use Rattle.al_rules_order.specs.Shown as shown
+use Rattle.al_rules_order.proofs.Finding.{refined}
+use Rattle.al_rules_order.proofs.orders.DropOrderRule.apply.Goals as goal
+
+pub returns-clause-refines : goal.returns-clause-refines
+returns-clause-refines c = refined meaning.DropOrder shown.drop_order c.args.p c.without_order-made.result c.without_order-made.ensures c.outcome.result c.outcome.ensures

@@ -1,0 +1,12 @@
+pub mod OrderRules
+pub mod OrderCounts
+pub mod OrderSet
+pub mod Outcomes
+pub mod AggOrder
+pub mod Dropped
+pub mod NearlyAlike
+pub mod OrderSound
+pub mod LimitSound
+pub mod Falls
+pub mod Shown
+pub mod Bare
