@@ -11,14 +11,16 @@ use Rattle.al_rule.specs.Entries.{listed}
 use Rattle.al_rule.specs.Driven.{Drove, Driven}
 use Rattle.al_rules_select.specs.Sets.{split_rules, select_rules}
 use Rattle.al_rules_join.specs.JoinSet.{join_rules}
+use Rattle.al_rules_order.specs.OrderSet.{order_rules}
+use Rattle.al_rules_group.specs.GroupSet.{group_rules}
 
 -- the sets by their names
 abbrev pub rules_of : SetName → Rules
 rules_of S.Split = split_rules
 rules_of S.Select = select_rules
 rules_of S.Join = join_rules
-rules_of S.Order = listed S.Order []
-rules_of S.Group = listed S.Group []
+rules_of S.Order = order_rules
+rules_of S.Group = group_rules
 rules_of S.Prune = listed S.Prune []
 
 -- the order in which they are driven

@@ -9,7 +9,9 @@ ghost use Rattle.al_rules_select.specs.Sets.{split_rules};
 
 use al_plan::Plan;
 use al_rule::{ApplyFault, RuleSet, Trace, drive_fixpoint, drive_once};
+use al_rules_group::GroupSet;
 use al_rules_join::JoinSet;
+use al_rules_order::OrderSet;
 use al_rules_select::{SelectSet, SplitSet, split_laws};
 use al_value::NoMemory;
 use std::alloc::Global;
@@ -50,5 +52,7 @@ pub fn optimise(alloc: Global, p: &Plan) -> Result<(Plan, Trace), NoMemory>
     let q = exhaust(alloc, &SelectSet, q, &mut trace)?;
     let q = exhaust(alloc, &JoinSet, q, &mut trace)?;
     let q = exhaust(alloc, &SelectSet, q, &mut trace)?;
+    let q = exhaust(alloc, &OrderSet, q, &mut trace)?;
+    let q = exhaust(alloc, &GroupSet, q, &mut trace)?;
     Ok((q, trace))
 }
