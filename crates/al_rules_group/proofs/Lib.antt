@@ -1,2 +1,3 @@
 pub mod DistinctLaws
 pub mod Finding
+pub mod BareLaws

@@ -11,3 +11,4 @@ pub mod Widening
 pub mod GroupSound
 pub mod Falls
 pub mod GroupSet
+pub mod Bare
