@@ -1,13 +1,13 @@
 -- Operators that name no variables are bare over bare inputs.
-use Rattle.std.proofs.Common.{◌≡◌, ◌≤◌, ℕ, Bool, true, List, [], ◌∷◌, ◌++◌, map, length, refl, ap, sym, subst, ◌∙◌, Option, None, arith}
+use Rattle.std.proofs.Common.{◌≡◌, true, List, [], ◌++◌, refl, ap, sym, subst, ◌∙◌, None, arith}
 use Rattle.std.specs.Prelude.{Result, Ok, Err, IfOk}
 use Rattle.al_plan.specs.declared.expr.Var.{Var}
 use Rattle.al_plan.specs.declared.plan.AggCall.{AggCall}
-use Rattle.al_plan.specs.declared.plan.Plan.{Plan, map-Plan, roll-Plan}
+use Rattle.al_plan.specs.declared.plan.Plan.{Plan}
 use Rattle.al_plan.specs.declared.plan.Plan.TheVariants as P
 use Rattle.al_plan.specs.declared.plan.Plan.TheOpen as L
 use Rattle.al_plan.specs.Allows.{live}
-use Rattle.al_plan.specs.Refines.{Fit, FitsEach, makes, result_of, is_aggregate, NoTwice, AtMost64}
+use Rattle.al_plan.specs.Refines.{FitsEach, makes, result_of, is_aggregate, NoTwice, AtMost64}
 use Rattle.al_plan.proofs.PlanLaws.{aggregate-roll, each-Nested, each-Distinct, each-Aggregate, live-Empty, makes-Empty, result-Empty, makes-Nested, result-Nested, live-Distinct, makes-Distinct, result-Distinct, live-Project, makes-Project, result-Project, live-Aggregate, makes-Aggregate, result-Aggregate, live-Group, makes-Group, result-Group}
 use Rattle.al_rule.proofs.RuleFit.{fit_in}
 use Rattle.al_rule.proofs.FitLaws.{in_Distinct, in_Project, in_Aggregate, in_Group}

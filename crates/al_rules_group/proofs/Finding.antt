@@ -1,9 +1,8 @@
 -- What the functions that find a rule's left side tell.
-use Rattle.std.proofs.Common.{◌≡◌, ℕ, Bool, true, false, List, [], ◌∷◌, refl, ap, sym, subst, ◌∙◌, Option, Some, None}
+use Rattle.std.proofs.Common.{◌≡◌, ℕ, Bool, true, false, List, refl, ap, sym, subst, ◌∙◌, Option, Some, None}
 use Rattle.std.specs.Prelude.{MatchOption, IfOk, is_some, Result, Ok, Err}
 use Rattle.al_value.specs.declared.fault.NoMemory.{NoMemory}
 use Rattle.al_plan.specs.declared.expr.Var.{Var}
-use Rattle.al_plan.specs.declared.plan.AggCall.{AggCall}
 use Rattle.al_plan.specs.declared.plan.Plan.{Plan, out-Plan}
 use Rattle.al_plan.specs.declared.plan.Plan.TheOpen as L
 use Rattle.al_plan.specs.declared.plan.Plan.TheVariants as P

@@ -1,5 +1,5 @@
 -- A project goes from below an aggregate.
-use Rattle.std.proofs.Common.{◌≡◌, List, [], ◌∷◌, ◌++◌, map, refl, ap, sym, subst, ◌∙◌, Option, None}
+use Rattle.std.proofs.Common.{List, [], ◌∷◌, ◌++◌, map, refl, ap, sym, subst, ◌∙◌}
 use Rattle.std.specs.List.{AllByRecursion}
 use Rattle.al_plan.specs.declared.expr.Var.{Var}
 use Rattle.al_plan.specs.declared.expr.Expr.{Expr}
@@ -9,7 +9,7 @@ use Rattle.al_plan.specs.declared.plan.Plan.TheVariants as P
 use Rattle.al_plan.specs.Eval.{Env}
 use Rattle.al_plan.specs.Names.{names, agg_exprs}
 use Rattle.al_plan.specs.Allows.{live, cut}
-use Rattle.al_plan.specs.Refines.{Fit, Replaces, IsOver, AreOver, AreLive, NoTwice, makes}
+use Rattle.al_plan.specs.Refines.{Fit, Replaces, IsOver, AreOver, AreLive, NoTwice}
 use Rattle.al_plan.proofs.PlanLaws.{allows_Aggregate, from_Aggregate, allows_Project, live-Project, scans-Project, makes-Project, faults-Project, live-Aggregate, ordered-Aggregate, scans-Aggregate, makes-Aggregate, result-Aggregate, faults-Aggregate}
 use Rattle.al_rule.proofs.Alike.{Alike, alike_replaces}
 use Rattle.al_rule.proofs.FitLaws.{out_Aggregate, in_Aggregate, out_Project}

@@ -1,16 +1,14 @@
 -- The rows of a group differ at the new keys.
-use Rattle.std.proofs.Common.{◌≡◌, ◌≢◌, ◌||◌, ℕ, suc, Bool, true, false, List, [], ◌∷◌, map, length, refl, ap, sym, subst, ◌∙◌, arith}
+use Rattle.std.proofs.Common.{◌≡◌, ◌≢◌, ◌||◌, suc, Bool, true, false, List, [], ◌∷◌, map, length, refl, ap, sym, ◌∙◌, arith}
 use Rattle.std.specs.Prelude.{nat_eq, if◌then◌else◌}
 use Rattle.std.specs.Cmp.Lexicographic.{pointwise, same_text}
 use Rattle.std.specs.List.{AllByRecursion, AllPairs, AllZip}
-use Rattle.std.specs.List.Sorted.{IsPermutation}
 use Rattle.al_value.specs.declared.value.Value.{Value}
-use Rattle.al_value.specs.declared.value.Value.TheVariants as V
 use Rattle.al_plan.specs.declared.expr.Var.{Var}
 use Rattle.al_plan.specs.declared.plan.Plan.{Plan}
 use Rattle.al_plan.specs.declared.plan.Plan.TheVariants as P
 use Rattle.al_plan.specs.Eval.{Bytes, Env, bind}
-use Rattle.al_plan.specs.Allows.{Sets, Allows, live, Gives, Group, is_among, beside, with_new, key_of, new_of, rows_in}
+use Rattle.al_plan.specs.Allows.{Sets, Allows, live, Gives, Group, is_among, with_new, key_of, new_of, rows_in}
 use Rattle.al_plan.specs.Refines.{NoTwice}
 use Rattle.al_plan.proofs.Bools.{by_cases}
 use Rattle.al_plan.proofs.EvalLaws.{bind-cons}

@@ -1,7 +1,7 @@
 -- A nested plan without a distinct doesn't see variables that are not given to it.
-use Rattle.std.proofs.Common.{◌≡◌, ℕ, suc, Bool, true, false, cond, List, [], ◌∷◌, ◌++◌, map, filter, flat_map, take, drop, refl, ap, sym, subst, ◌∙◌}
+use Rattle.std.proofs.Common.{◌≡◌, ℕ, Bool, true, false, cond, List, [], ◌∷◌, ◌++◌, map, filter, flat_map, take, drop, refl, ap, sym, subst, ◌∙◌}
 use Rattle.std.specs.Prelude.{if◌then◌else◌}
-use Rattle.std.specs.List.{All, AllByRecursion}
+use Rattle.std.specs.List.{AllByRecursion}
 use Rattle.std.specs.List.Sorted.{IsPermutation, IsSorted}
 use Rattle.std.specs.declared.cmp.Ordering.{Ordering}
 use Rattle.std.specs.Ordering.{ordering_then}
@@ -15,13 +15,12 @@ use Rattle.al_func.specs.Items.{range, split}
 use Rattle.al_plan.specs.declared.expr.Var.{Var}
 use Rattle.al_plan.specs.declared.expr.Expr.{Expr}
 use Rattle.al_plan.specs.declared.plan.OrderKey.{OrderKey}
-use Rattle.al_plan.specs.declared.plan.AggCall.{AggCall}
 use Rattle.al_plan.specs.declared.plan.Generator.{Generator}
 use Rattle.al_plan.specs.declared.plan.Generator.TheVariants as G
 use Rattle.al_plan.specs.declared.plan.Plan.{Plan, map-Plan, roll-Plan, fold-roll-Plan, ind-Plan}
 use Rattle.al_plan.specs.declared.plan.Plan.TheOpen as L
 use Rattle.al_plan.specs.Eval.{Bytes, Env, bind, eval, holds}
-use Rattle.al_plan.specs.Names.{names, agg_exprs, item_exprs}
+use Rattle.al_plan.specs.Names.{names, item_exprs}
 use Rattle.al_plan.specs.Calls.{items}
 use Rattle.al_plan.specs.Allows.{Sets, Allows, live, is_among, cut, assigned, expanded, with_new, keys_cmp, directed, agg_row, IsOrderOf, ordered}
 use Rattle.al_plan.specs.Refines.{FitsEach, IsOver, AreOver, AreLive, AreAmong, makes, makes_step}

@@ -1,20 +1,17 @@
 -- A project goes from below a group whose nested plan has no distinct.
-use Rattle.std.proofs.Common.{◌≡◌, ◌≢◌, ◌&&◌, ℕ, Bool, true, false, not, List, [], ◌∷◌, ◌++◌, map, flat_map, refl, ap, sym, subst, ◌∙◌, Option, None}
+use Rattle.std.proofs.Common.{◌≡◌, ◌≢◌, ◌&&◌, Bool, true, false, not, List, [], ◌∷◌, ◌++◌, map, flat_map, refl, ap, sym, subst, ◌∙◌}
 use Rattle.std.specs.Prelude.{if◌then◌else◌}
-use Rattle.std.specs.List.{All, AllByRecursion, AllPairs, AllZip}
+use Rattle.std.specs.List.{All, AllByRecursion, AllZip}
 use Rattle.std.specs.List.Sorted.{IsPermutation}
 use Rattle.std.proofs.lemmas.List.Elements.{All-from_recursion, recursion_from_All}
 use Rattle.std.proofs.lemmas.List.Sorted.{IsPermutation-map, All-permutation}
-use Rattle.al_value.specs.declared.value.Value.{Value}
 use Rattle.al_value.specs.declared.value.Value.TheVariants as V
 use Rattle.al_plan.specs.declared.expr.Var.{Var}
-use Rattle.al_plan.specs.declared.plan.AggCall.{AggCall}
 use Rattle.al_plan.specs.declared.plan.Plan.{Plan}
 use Rattle.al_plan.specs.declared.plan.Plan.TheVariants as P
-use Rattle.al_plan.specs.Eval.{Bytes, Env, bind}
+use Rattle.al_plan.specs.Eval.{Bytes, Env}
 use Rattle.al_plan.specs.Allows.{Sets, Allows, live, Gives, Group, IsGrouping, is_among, cut, with_new, key_of, new_of, rows_in, agg_row}
-use Rattle.al_plan.specs.Refines.{Scan, scans, Fit, FitsEach, Replaces, AreLive, NoTwice, AtMost64, IsWithin, is_aggregate, makes}
-use Rattle.al_plan.proofs.Bools.{by_cases}
+use Rattle.al_plan.specs.Refines.{Scan, scans, Fit, FitsEach, Replaces, AreLive, NoTwice, AtMost64, IsWithin, makes}
 use Rattle.al_plan.proofs.Lives.{only_made}
 use Rattle.al_plan.proofs.Makes.{apart, among_of}
 use Rattle.al_plan.proofs.Moves.{Apart, apart_from_pairs, pairs_from_apart}

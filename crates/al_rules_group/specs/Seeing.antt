@@ -1,8 +1,7 @@
 -- Aggregates see of their rows what their expressions read.
-use Rattle.std.proofs.Common.{◌≡◌, List, [], ◌∷◌, ◌++◌, map, refl, ap, sym, subst, ◌∙◌, true}
+use Rattle.std.proofs.Common.{◌≡◌, List, [], ◌∷◌, map, refl, ap}
 use Rattle.std.specs.Prelude.{if◌then◌else◌}
 use Rattle.std.specs.List.{AllByRecursion}
-use Rattle.al_value.specs.declared.value.Value.{Value}
 use Rattle.al_value.specs.declared.value.Value.TheVariants as V
 use Rattle.al_agg.specs.Agg.{agg}
 use Rattle.al_agg.specs.declared.agg.Agg.TheVariants as A
@@ -13,7 +12,7 @@ use Rattle.al_plan.specs.declared.plan.AggCall.TheVariants as C
 use Rattle.al_plan.specs.Eval.{Bytes, Env, bind, eval}
 use Rattle.al_plan.specs.Names.{names, agg_exprs}
 use Rattle.al_plan.specs.Calls.{agg_call}
-use Rattle.al_plan.specs.Allows.{agg_row, cut, is_among}
+use Rattle.al_plan.specs.Allows.{agg_row, cut}
 use Rattle.al_plan.specs.Refines.{IsOver, AreOver, AreAmong}
 use Rattle.al_rule.proofs.ReadLaws.{eval-names}
 
