@@ -1,0 +1,2 @@
+//! The set of rules that cut away variables that nobody uses, after Algebricks' rules.
+#![tactic(auto)]
