@@ -4,3 +4,5 @@ pub mod Kept
 pub mod RowMaps
 pub mod Chained
 pub mod ProjectAll
+pub mod Kin
+pub mod CutInputs
