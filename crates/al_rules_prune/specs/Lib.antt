@@ -6,3 +6,5 @@ pub mod Chained
 pub mod ProjectAll
 pub mod Kin
 pub mod CutInputs
+pub mod JoinCuts
+pub mod Forget
