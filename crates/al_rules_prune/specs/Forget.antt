@@ -85,7 +85,7 @@ flat_forget ds v g (r ∷ rows) h d = (λ i. expanded_forget ds v g r h d i ++ f
 limited : (f : Env → Env) (n k : ℕ) (rows : List Env) → take n (drop k (map f rows)) ≡ map f (take n (drop k rows))
 limited f n k rows = ap (take n) (drop-map f k rows) ∙ take-map f n (drop k rows)
 
-reads-roll : (x : L.Plan-F Plan) → reads (roll-Plan x) ≡ reads_step (map-Plan Plan (List Bytes) reads x)
+pub reads-roll : (x : L.Plan-F Plan) → reads (roll-Plan x) ≡ reads_step (map-Plan Plan (List Bytes) reads x)
 unfolding reads
 reads-roll x = fold-roll-Plan (List Bytes) reads_step x
 

@@ -8,3 +8,4 @@ pub mod Kin
 pub mod CutInputs
 pub mod JoinCuts
 pub mod Forget
+pub mod Nested
