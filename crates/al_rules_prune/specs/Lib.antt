@@ -9,3 +9,5 @@ pub mod CutInputs
 pub mod JoinCuts
 pub mod Forget
 pub mod Nested
+pub mod GroupCut
+pub mod Sound
