@@ -89,7 +89,7 @@ pub reads-roll : (x : L.Plan-F Plan) → reads (roll-Plan x) ≡ reads_step (map
 unfolding reads
 reads-roll x = fold-roll-Plan (List Bytes) reads_step x
 
-distinct-roll : (x : L.Plan-F Plan) → has_distinct (roll-Plan x) ≡ distinct_step (map-Plan Plan Bool has_distinct x)
+pub distinct-roll : (x : L.Plan-F Plan) → has_distinct (roll-Plan x) ≡ distinct_step (map-Plan Plan Bool has_distinct x)
 unfolding has_distinct
 distinct-roll x = fold-roll-Plan Bool distinct_step x
 

@@ -1,7 +1,7 @@
 -- Groups over an input that is cut to their keys and to what their nested plan uses.
 use Rattle.std.proofs.Common.{◌≡◌, ◌≢◌, ◌≤◌, ℕ, Bool, true, false, not, ◌&&◌, List, [], ◌∷◌, ◌++◌, map, filter, flat_map, refl, ap, sym, subst, ◌∙◌, Option, None}
 use Rattle.std.specs.Prelude.{if◌then◌else◌, ◌||◌}
-use Rattle.std.specs.List.{All, AllByRecursion, AllZip, AllPairs, list_any}
+use Rattle.std.specs.List.{All, AllByRecursion, AllZip, AllPairs}
 use Rattle.std.specs.List.Sorted.{IsPermutation}
 use Rattle.std.proofs.lemmas.List.Elements.{All-from_recursion, recursion_from_All}
 use Rattle.std.proofs.lemmas.List.Sorted.{All-permutation}
@@ -23,7 +23,7 @@ use Rattle.al_plan.proofs.PlanLaws.{allows_Group, from_Group, from_Project, live
 use Rattle.al_rule.proofs.FitLaws.{out_Group, in_Group}
 use Rattle.al_rule.proofs.Joins.{rows_within}
 use Rattle.al_rules_prune.specs.Reading.{reads, has_distinct}
-use Rattle.al_rules_prune.specs.Prunes.{kept, narrowed, wide, IsWide, used_by}
+use Rattle.al_rules_prune.specs.Prunes.{kept, narrowed, all_among, wide, IsWide, used_by}
 use Rattle.al_rules_prune.specs.Kept.{IsIn, among_filter, among_kept, are_live, are_kept, kept_live, fit_narrowed, in_left, in_right}
 use Rattle.al_rules_prune.specs.RowMaps.{Keeps, key_of-kept}
 use Rattle.al_rules_prune.specs.Kin.{kin_replaces, kin_narrowed, kin-Group}
@@ -131,11 +131,11 @@ module _ (f : Env → Env) where
 
 -- what is wide has a variable that is not among these
 not_wide : (vars : List Var) (p : Plan) → IsIn (live p []) vars → wide vars p ≡ false
-not_wide vars p h = go (live p []) h
+not_wide vars p h = ap not (go (live p []) h)
   where
-    go : (xs : List Var) → IsIn xs vars → list_any (λ v. not (is_among vars v.name)) xs ≡ false
+    go : (xs : List Var) → IsIn xs vars → all_among vars xs ≡ true
     go [] h = refl
-    go (x ∷ xs) h = (λ i. not (h x.name (at_head x xs) i) || list_any (λ v. not (is_among vars v.name)) xs) ∙ go xs (λ q e. h q (in_right (x ∷ []) xs q e))
+    go (x ∷ xs) h = (λ i. h x.name (at_head x xs) i && all_among vars xs) ∙ go xs (λ q e. h q (in_right (x ∷ []) xs q e))
 
 pub uses_less : (keys : List (Var × Var)) (n p : Plan) → IsWide (map (λ k. k.1) keys ++ used_by n p) p → (has_distinct n ≡ false) × (used_by n p ≡ map named (reads n))
 uses_less keys n p h = go (has_distinct n) refl

@@ -11,3 +11,4 @@ pub mod Forget
 pub mod Nested
 pub mod GroupCut
 pub mod Sound
+pub mod Matching

@@ -1,6 +1,6 @@
 -- The rules of pruning: what each rewrites, under which condition, and to what.
 use Rattle.std.specs.Prelude.{◌≡◌, ◌⊎◌, Bool, true, false, not, List, [], ◌∷◌, ◌++◌, map, filter, if◌then◌else◌}
-use Rattle.std.specs.List.{flat_map, list_any}
+use Rattle.std.specs.List.{flat_map, list_all}
 use Rattle.al_plan.specs.declared.expr.Var.{Var}
 use Rattle.al_plan.specs.declared.expr.Expr.{Expr}
 use Rattle.al_plan.specs.declared.plan.AggCall.{AggCall}
@@ -34,9 +34,13 @@ kept vars p = filter (λ v. is_among vars v.name) (live p [])
 abbrev pub narrowed : List Var → Plan → Plan
 narrowed vars p = P.Project (kept vars p) p
 
--- the plan has a live variable that is not among these
+-- whether each of the second variables is among the first
+abbrev pub all_among : List Var → List Var → Bool
+all_among vars xs = list_all (λ v. is_among vars v.name) xs
+
+-- whether a plan has a live variable that is not among these
 abbrev pub wide : List Var → Plan → Bool
-wide vars p = list_any (λ v. not (is_among vars v.name)) (live p [])
+wide vars p = not (all_among vars (live p []))
 
 abbrev pub IsWide : List Var → Plan → Type 0
 IsWide vars p = wide vars p ≡ true
@@ -64,7 +68,7 @@ ProjectAll p q = (vars : List Var) × (x : Plan) × (p ≡ P.Project vars x) × 
 
 -- what is made for nobody is not made
 abbrev pub AssignUnderProject : Rewriting
-AssignUnderProject p q = (vars : List Var) × (made : List (Var × Expr)) × (x : Plan) × (p ≡ P.Project vars (P.Assign made x)) × (list_any (λ m. not (is_among vars m.0.name)) made ≡ true) × (q ≡ P.Project vars (assigned_over (bindings vars made) x))
+AssignUnderProject p q = (vars : List Var) × (made : List (Var × Expr)) × (x : Plan) × (p ≡ P.Project vars (P.Assign made x)) × (all_among vars (map (λ m. m.0) made) ≡ false) × (q ≡ P.Project vars (assigned_over (bindings vars made) x))
 
 abbrev pub ProjectBelowSelect : Rewriting
 ProjectBelowSelect p q = (vars : List Var) × (e : Expr) × (x : Plan) × (p ≡ P.Project vars (P.Select e x)) × IsWide (vars ++ read_by e) x × (q ≡ P.Project vars (P.Select e (narrowed (vars ++ read_by e) x)))
