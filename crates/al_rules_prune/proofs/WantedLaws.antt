@@ -137,3 +137,16 @@ pub one_fails : {X : Type 0} (f : X → Bool) (xs : List X) (i : ℕ) (d : X) �
 one_fails f [] i d low h = absurd (omega arith)
 one_fails f (x ∷ xs) zero d low h = ap (λ b. b && list_all f xs) h
 one_fails f (x ∷ xs) (suc i) d low h = ap (λ b. f x && b) (one_fails f xs i d (omega arith) h) ∙ and_false (f x)
+
+-- ---- keys and aggregates
+
+pub among_order : (keys : List OrderKey) (q : Bytes) → is_among (map (λ k. k.var) keys) q ≡ list_any (λ k. pointwise nat_eq k.var.name q) keys
+among_order [] q = refl
+among_order (k ∷ keys) q = ap (λ b. pointwise nat_eq k.var.name q || b) (among_order keys q)
+
+pub one_read : (e : Expr) (q : Bytes) → is_among (flat_map read_by (e ∷ [])) q ≡ is_among (read_by e) q
+one_read e q = is_among-append (read_by e) [] q ∙ or_false (is_among (read_by e) q)
+
+pub calls_read : (made : List (Var × AggCall)) (q : Bytes) → is_among (read_by_aggregates made) q ≡ list_any (λ m. is_among (flat_map read_by (agg_exprs m.1)) q) made
+calls_read [] q = refl
+calls_read (m ∷ made) q = is_among-append (flat_map read_by (agg_exprs m.1)) (read_by_aggregates made) q ∙ ap (λ b. is_among (flat_map read_by (agg_exprs m.1)) q || b) (calls_read made q)

@@ -1,5 +1,5 @@
 -- Whether a rule matches, and what it makes of a plan.
-use Rattle.std.specs.Prelude.{◌≡◌, Bool, true, false, List, Option, Some, None, Result, Ok, Err}
+use Rattle.std.specs.Prelude.{◌≡◌, Bool, true, false, List, Option, Some, None, Result, Ok, Err, if◌then◌else◌}
 use Rattle.al_value.specs.declared.fault.NoMemory.{NoMemory}
 use Rattle.al_plan.specs.declared.expr.Var.{Var}
 use Rattle.al_plan.specs.declared.expr.Expr.{Expr}
@@ -9,7 +9,7 @@ use Rattle.al_rule.specs.declared.rule.ApplyFault.{ApplyFault}
 use Rattle.al_rule.specs.declared.rule.ApplyFault.TheVariants as A
 use Rattle.al_rule.specs.Places.{Rewriting}
 use Rattle.al_rule.specs.Rules.{Matches}
-use Rattle.al_rules_prune.specs.Prunes.{joined, wide, IsWide}
+use Rattle.al_rules_prune.specs.Prunes.{joined, narrowed, wide, IsWide}
 
 abbrev pub IsNoProject : Plan → Type 0
 IsNoProject p = (vars : List Var) (x : Plan) → p ≡ P.Project vars x → ⊥
@@ -36,3 +36,14 @@ outcome p (Err e) = Err (A.NoMemory p)
 abbrev pub IsWideOn : Bool → List Var → Plan → Plan → Type 0
 IsWideOn true vars l r = IsWide vars l
 IsWideOn false vars l r = (wide vars l ≡ false) × IsWide vars r
+
+-- neither has
+abbrev pub IsNarrow : List Var → Plan → Plan → Type 0
+IsNarrow vars l r = (wide vars l ≡ false) × (wide vars r ≡ false)
+
+-- the inputs of which one is cut
+abbrev pub left_cut : Bool → List Var → Plan → Plan
+left_cut on_left vars l = if on_left then narrowed vars l else l
+
+abbrev pub right_cut : Bool → List Var → Plan → Plan
+right_cut on_left vars r = if on_left then r else narrowed vars r

@@ -2,7 +2,11 @@
 #![tactic(auto)]
 
 mod cuts;
+mod join;
 mod parts;
+mod projects;
 mod wanted;
 
-pub use cuts::{ProjectBelowSelect, ResultProject};
+pub use cuts::{AggregateProjectInput, ProjectBelowOrder, ProjectBelowSelect, ResultProject};
+pub use join::ProjectBelowJoin;
+pub use projects::{AssignUnderProject, ProjectAll, ProjectOverProject};

@@ -1,12 +1,15 @@
 //! Which variables are wanted of a plan, told without memory.
 
-ghost use Rattle.std.specs.Prelude.{◌≡◌, ◌++◌, [], IfOk, List, filter, map};
+ghost use Rattle.std.specs.Prelude.{◌≡◌, ◌++◌, [], IfOk, List, filter, map, nat_eq};
 ghost use Rattle.al_plan.specs.declared.expr.Var.{Var};
+ghost use Rattle.std.specs.List.{flat_map, list_any};
+ghost use Rattle.std.specs.Cmp.Lexicographic.{pointwise};
+ghost use Rattle.al_plan.specs.Names.{agg_exprs};
 ghost use Rattle.al_plan.specs.Allows.{is_among, live};
 ghost use Rattle.al_rules_prune.specs.Prunes as meaning;
 ghost use Rattle.al_rules_prune.specs.Prunes.{all_among, read_by};
 
-use al_plan::{Expr, Plan, Var, live};
+use al_plan::{AggCall, Expr, OrderKey, Plan, Var, live};
 use al_rule::avoids_var;
 use al_value::{Boxed, List, NoMemory};
 use std::alloc::Global;
@@ -161,4 +164,64 @@ pub fn narrowed<W: Wanted>(alloc: Global, wanted: &W, p: &Plan) -> Result<Boxed<
     let vars = kept(alloc, wanted, all.as_slice())?;
     let input = copied(alloc, p)?;
     Boxed::new(alloc, Plan::Project { vars, input })
+}
+
+/// Those of a list, and those that keys order by.
+#[derive(Drop)]
+pub struct ListedOrKeys<'a> {
+    pub vars: &'a [Var],
+    pub keys: &'a [OrderKey],
+}
+
+fn orders_by(keys: &[OrderKey], v: &Var) -> bool
+    ensures { result ≡ list_any (λ k. pointwise nat_eq k.var.name v.now.name) keys.now }
+{
+    keys.iter().any(|k| k.var.name == v.name)
+}
+
+impl<'a> Wanted for ListedOrKeys<'a> {
+    ghost vars_of = { λ self. self.vars.now ++ map (λ k. k.var) self.keys.now };
+
+    #[tactic(auto, using(crate::proofs::WantedLaws::among_both, crate::proofs::WantedLaws::among_order))]
+    fn has(&self, v: &Var) -> bool {
+        is_in(self.vars, v) || orders_by(self.keys, v)
+    }
+}
+
+#[tactic(auto, using(crate::proofs::WantedLaws::one_read))]
+fn call_reads(call: &AggCall, v: &Var) -> bool
+    ensures { result ≡ is_among (flat_map read_by (agg_exprs call.now)) v.now.name }
+{
+    match call {
+        AggCall::CountAll => false,
+        AggCall::Count(e) => reads(e, v),
+        AggCall::Sum(e) => reads(e, v),
+        AggCall::Min(e) => reads(e, v),
+        AggCall::Max(e) => reads(e, v),
+    }
+}
+
+/// Those that calls of aggregates read.
+#[derive(Drop)]
+pub struct ReadByCalls<'a> {
+    pub made: &'a [(Var, AggCall)],
+}
+
+fn any_call_reads(made: &[(Var, AggCall)], v: &Var) -> bool
+    ensures { result ≡ is_among (meaning.read_by_aggregates made.now) v.now.name }
+{
+    for m in made {
+        if call_reads(&m.1, v) {
+            return true;
+        }
+    }
+    false
+}
+
+impl<'a> Wanted for ReadByCalls<'a> {
+    ghost vars_of = { λ self. meaning.read_by_aggregates self.made.now };
+
+    fn has(&self, v: &Var) -> bool {
+        any_call_reads(self.made, v)
+    }
 }

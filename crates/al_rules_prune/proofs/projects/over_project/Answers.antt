@@ -1,0 +1,10 @@
+use Rattle.std.proofs.Common.{rules, ◌≡◌, ◌++◌, true, false, sym, map, ◌∙◌}
+use Rattle.al_rules_prune.specs.Prunes.{all_among, wide, read_by}
+use Rattle.al_rules_prune.proofs.MatchLaws.{none_project, other_project}
+use Rattle.al_rules_prune.proofs.projects.over_project.Goals as goal
+
+pub returns-in_default : goal.returns-in_default
+returns-in_default c = none_project c.args.p.now (search rules)
+
+pub returns-in_default-project_parts : goal.returns-in_default-project_parts
+returns-in_default-project_parts c = other_project c.args.p.now c.in-Some.vars.now c.in-Some.over.now (search rules) (search rules)
