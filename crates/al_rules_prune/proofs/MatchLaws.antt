@@ -21,6 +21,10 @@ use Rattle.al_rule.specs.Rules.{Decides, Matches, HandsBack}
 use Rattle.al_rule.proofs.Operators.{out-Select, out-Assign, out-Project, out-Group, out-Order, out-Aggregate, out-Result, out-Join, out-LeftJoin}
 use Rattle.al_rules_prune.specs.Prunes as rule
 use Rattle.al_rules_prune.specs.Prunes.{wide, IsWide, CutsInput, narrowed, read_by, read_by_aggregates, used_by, joined, all_among, HaveSame, bindings, assigned_over}
+use Rattle.std.specs.Prelude.{if◌then◌else◌}
+use Rattle.al_plan.specs.Uses.{named}
+use Rattle.al_rules_prune.specs.Reading.{reads, has_distinct}
+use Rattle.al_rules_prune.specs.GroupCut.{uses_less}
 use Rattle.al_rules_prune.specs.Kept.{in_right}
 use Rattle.al_rules_prune.specs.Matching.{IsNoProject, IsNoJoined, IsNot, Rewritten, IsNarrow, IsWideOn, left_cut, right_cut, outcome}
 
@@ -237,3 +241,39 @@ pub yes_join : (p : Plan) (vars : List Var) (t : Bool) (c : Expr) (l r : Plan) (
 yes_join p vars t c l r on_left is h =
     let over = joined t c (left_cut on_left (vars ++ read_by c) l) (right_cut on_left (vars ++ read_by c) r) in
     (P.Project vars over, rewritten_join p vars t c l r on_left over is h refl)
+
+-- ---- groups
+
+abbrev Grouping : List (Var × Var) → Plan → Plan → List (Var × Var) → Plan → Plan → Type 0
+Grouping keys n x others m y = (keys ≡ others) × (n ≡ m) × (x ≡ y)
+
+same_Group : (keys others : List (Var × Var)) (n m x y : Plan) → P.Group keys n x ≡ P.Group others m y → Grouping keys n x others m y
+same_Group keys others n m x y e = let h : L.Group keys n x ≡ L.Group others m y = sym (out-Group keys n x) ∙ ap out-Plan e ∙ out-Group others m y in (cc, cc, cc)
+
+pub other_group : (p : Plan) → ((keys : List (Var × Var)) (n x : Plan) → p ≡ P.Group keys n x → ⊥) → IsNot rule.GroupProjectInput p
+other_group p never (q, (keys, n, x, at, is_wide, to)) = never keys n x at
+
+uses_group : (keys : List (Var × Var)) (n x : Plan) (p : Plan) → p ≡ P.Group keys n x → Matches rule.GroupProjectInput p → IsWide (map (λ k. k.1) keys ++ used_by n x) x
+uses_group keys n x p is (q, (others, m, y, at, is_wide, to)) =
+    let s = same_Group others keys m n y x (sym at ∙ is) in
+    (λ i. wide (map (λ k. k.1) (sym s.0 i) ++ used_by (sym s.1 i) (sym s.2 i)) (sym s.2 i)) ∙ is_wide
+
+pub distinct_group : (p : Plan) (keys : List (Var × Var)) (n x : Plan) → p ≡ P.Group keys n x → has_distinct n ≡ true → IsNot rule.GroupProjectInput p
+distinct_group p keys n x is d m = no (sym d ∙ (uses_less keys n x (uses_group keys n x p is m)).0)
+
+pub narrow_group : (p : Plan) (keys : List (Var × Var)) (n x : Plan) → p ≡ P.Group keys n x → wide (map (λ k. k.1) keys ++ map named (reads n)) x ≡ false → IsNot rule.GroupProjectInput p
+narrow_group p keys n x is thin m =
+    let h = uses_group keys n x p is m in
+    no (sym h ∙ ap (λ vs. wide (map (λ k. k.1) keys ++ vs) x) (uses_less keys n x h).1 ∙ thin)
+
+plain_uses : (n x : Plan) → has_distinct n ≡ false → used_by n x ≡ map named (reads n)
+plain_uses n x e = ap (λ b. if b then live x [] else map named (reads n)) e
+
+pub rewritten_group : (p : Plan) (keys : List (Var × Var)) (n x : Plan) → p ≡ P.Group keys n x → has_distinct n ≡ false → IsWide (map (λ k. k.1) keys ++ map named (reads n)) x
+    → rule.GroupProjectInput p (P.Group keys n (narrowed (map (λ k. k.1) keys ++ map named (reads n)) x))
+rewritten_group p keys n x is d h =
+    let same = plain_uses n x d in
+    (keys, n, x, is, ap (λ vs. wide (map (λ k. k.1) keys ++ vs) x) same ∙ h, ap (λ vs. P.Group keys n (narrowed (map (λ k. k.1) keys ++ vs) x)) (sym same))
+
+pub yes_group : (p : Plan) (keys : List (Var × Var)) (n x : Plan) → p ≡ P.Group keys n x → has_distinct n ≡ false → IsWide (map (λ k. k.1) keys ++ map named (reads n)) x → Matches rule.GroupProjectInput p
+yes_group p keys n x is d h = (P.Group keys n (narrowed (map (λ k. k.1) keys ++ map named (reads n)) x), rewritten_group p keys n x is d h)

@@ -35,10 +35,10 @@ and_one false = refl
 pub among-Scan : (vs : List Var) (set : Bytes) (vars : List Var) (given : List Var) → all_among vs (live (P.Scan set vars) given) ≡ (all_among vs vars)
 among-Scan vs set vars given = ap (all_among vs) (live-Scan set vars given)
 
-pub among-Empty : (vs : List Var)  (given : List Var) → all_among vs (live P.Empty given) ≡ (true)
+pub among-Empty : (vs : List Var) (given : List Var) → all_among vs (live P.Empty given) ≡ (true)
 among-Empty vs given = ap (all_among vs) (live-Empty given)
 
-pub among-Nested : (vs : List Var)  (given : List Var) → all_among vs (live P.Nested given) ≡ (all_among vs given)
+pub among-Nested : (vs : List Var) (given : List Var) → all_among vs (live P.Nested given) ≡ (all_among vs given)
 among-Nested vs given = ap (all_among vs) (live-Nested given)
 
 pub among-Assign : (vs : List Var) (made : List (Var × Expr)) (p : Plan) (given : List Var) → all_among vs (live (P.Assign made p) given) ≡ (all_among vs (live p given) && all_among vs (map (λ m. m.0) made))
@@ -94,8 +94,8 @@ same_turned : (x y : Bytes) → pointwise nat_eq x y ≡ pointwise nat_eq y x
 same_turned x y = by_cases (pointwise nat_eq x y)
     (λ e. e ∙ sym (ap (λ z. pointwise nat_eq y z) (same_text x y (sym e)) ∙ text_itself y))
     (λ e. by_cases (pointwise nat_eq y x)
-        (λ d. absurd (no (sym (ap (λ z. pointwise nat_eq z y) (sym (same_text y x (sym d))) ∙ text_itself y) ∙ e)))
-        (λ d. e ∙ sym d))
+    (λ d. absurd (no (sym (ap (λ z. pointwise nat_eq z y) (sym (same_text y x (sym d))) ∙ text_itself y) ∙ e)))
+    (λ d. e ∙ sym d))
 
 or_false : (b : Bool) → (b || false) ≡ b
 or_false true = refl
@@ -128,7 +128,6 @@ pub all_made_among : {T : Type 0} (vs : List Var) (made : List (Var × T)) → a
 all_made_among vs [] = refl
 all_made_among vs (m ∷ made) = ap (λ b. is_among vs m.0.name && b) (all_made_among vs made)
 
-
 and_false : (b : Bool) → (b && false) ≡ false
 and_false true = refl
 and_false false = refl
@@ -150,3 +149,7 @@ one_read e q = is_among-append (read_by e) [] q ∙ or_false (is_among (read_by 
 pub calls_read : (made : List (Var × AggCall)) (q : Bytes) → is_among (read_by_aggregates made) q ≡ list_any (λ m. is_among (flat_map read_by (agg_exprs m.1)) q) made
 calls_read [] q = refl
 calls_read (m ∷ made) q = is_among-append (flat_map read_by (agg_exprs m.1)) (read_by_aggregates made) q ∙ ap (λ b. is_among (flat_map read_by (agg_exprs m.1)) q || b) (calls_read made q)
+
+pub among_olds : (keys : List (Var × Var)) (q : Bytes) → is_among (map (λ k. k.1) keys) q ≡ list_any (λ k. pointwise nat_eq k.1.name q) keys
+among_olds [] q = refl
+among_olds (k ∷ keys) q = ap (λ b. pointwise nat_eq k.1.name q || b) (among_olds keys q)

@@ -36,9 +36,9 @@ result_project vars p fit =
     let into : IsIn vars rest = λ q h. are_kept vars p q h (among_of (live p []) vars top.listed q h) in
     let whole = in_Result vars (narrowed vars p) (record { input = fit_narrowed vars p top.input top.root; root = result-Project rest p; listed = subst (λ (vs : List Var). AreLive vs vars) (sym (live-Project rest p [])) (are_live rest vars into); no_twice = top.no_twice; thin = top.thin }) in
     kin_replaces (P.Result vars (narrowed vars p)) (P.Result vars p) fit whole (live-Result vars (narrowed vars p) [] ∙ sym (live-Result vars p [])) (kin-Result vars (narrowed vars p) p (kin_narrowed vars p top.root)) (λ b sets rows fills k.
-        let o = from_Result vars (narrowed vars p) b sets [] [] rows k in
-        let i = from_Project rest p b sets [] [] o.0 o.1 in
-        allows_Result vars p b sets [] [] rows (i.0, i.1, o.2 ∙ ap (map (cut vars)) i.2 ∙ cuts_cut vars rest i.0 into))
+    let o = from_Result vars (narrowed vars p) b sets [] [] rows k in
+    let i = from_Project rest p b sets [] [] o.0 o.1 in
+    allows_Result vars p b sets [] [] rows (i.0, i.1, o.2 ∙ ap (map (cut vars)) i.2 ∙ cuts_cut vars rest i.0 into))
 
 -- ---- aggregates
 
@@ -74,9 +74,9 @@ aggregate_project made p fit =
     let kin = kin_narrowed vars p top.root in
     let whole = in_Aggregate made (narrowed vars p) (record { input = fit_narrowed vars p top.input top.root; root = result-Project rest p; over = subst (λ (vs : List Var). AllByRecursion (λ m. AreOver vs (agg_exprs m.1)) made) (sym (live-Project rest p [])) over; thin = top.thin; once = subst (λ (vs : List Var). NoTwice (vs ++ map (λ m. m.0) made)) (sym kin.made) top.once }) in
     kin_replaces (P.Aggregate made (narrowed vars p)) (P.Aggregate made p) fit whole (live-Aggregate made (narrowed vars p) [] ∙ sym (live-Aggregate made p [])) (kin-Aggregate made (narrowed vars p) p kin) (λ b sets rows fills k.
-        let o = from_Aggregate made (narrowed vars p) b sets [] [] rows k in
-        let i = from_Project rest p b sets [] [] o.0 o.1 in
-        allows_Aggregate made p b sets [] [] rows (i.0, i.1, o.2 ∙ ap (λ (zs : List Env). agg_row made zs ∷ []) i.2 ∙ ap (λ vs. bind (map (λ m. m.0) made) vs ∷ []) (aggs-kept (cut rest) made i.0 keeps)))
+    let o = from_Aggregate made (narrowed vars p) b sets [] [] rows k in
+    let i = from_Project rest p b sets [] [] o.0 o.1 in
+    allows_Aggregate made p b sets [] [] rows (i.0, i.1, o.2 ∙ ap (λ (zs : List Env). agg_row made zs ∷ []) i.2 ∙ ap (λ vs. bind (map (λ m. m.0) made) vs ∷ []) (aggs-kept (cut rest) made i.0 keeps)))
 
 -- ---- projects over orders
 
@@ -105,9 +105,9 @@ project_below_order vars keys p fit =
     let vars_are : live (P.Order keys (narrowed all p)) [] ≡ rest = live-Order keys (narrowed all p) [] ∙ live-Project rest p [] in
     let whole = in_Project vars (P.Order keys (narrowed all p)) (record { input = inner; root = result-Order keys (narrowed all p); listed = subst (λ (vs : List Var). AreLive vs vars) (sym vars_are) (are_live rest vars into); no_twice = top.no_twice; thin = top.thin }) in
     kin_replaces (P.Project vars (P.Order keys (narrowed all p))) (P.Project vars (P.Order keys p)) fit whole (live-Project vars (P.Order keys (narrowed all p)) [] ∙ sym (live-Project vars (P.Order keys p) [])) (kin-Project vars (P.Order keys (narrowed all p)) (P.Order keys p) (kin-Order keys (narrowed all p) p kin)) (λ b sets rows fills k.
-        let o = from_Project vars (P.Order keys (narrowed all p)) b sets [] [] rows k in
-        let i = from_Order keys (narrowed all p) b sets [] [] o.0 o.1 in
-        let u = from_Project rest p b sets [] [] i.0 i.1 in
-        let lifted = IsPermutation-lift (cut rest) u.0 o.0 (subst (λ (zs : List Env). IsPermutation zs o.0) u.2 i.2.0) in
-        let sorted = sorted-kept (cut rest) keys lifted.0 keeps (subst (IsSorted (keys_cmp keys)) lifted.2 i.2.1) in
-        allows_Project vars (P.Order keys p) b sets [] [] rows (lifted.0, allows_Order keys p b sets [] [] lifted.0 (u.0, u.1, (lifted.1, sorted)), o.2 ∙ ap (map (cut vars)) lifted.2 ∙ cuts_cut vars rest lifted.0 into))
+    let o = from_Project vars (P.Order keys (narrowed all p)) b sets [] [] rows k in
+    let i = from_Order keys (narrowed all p) b sets [] [] o.0 o.1 in
+    let u = from_Project rest p b sets [] [] i.0 i.1 in
+    let lifted = IsPermutation-lift (cut rest) u.0 o.0 (subst (λ (zs : List Env). IsPermutation zs o.0) u.2 i.2.0) in
+    let sorted = sorted-kept (cut rest) keys lifted.0 keeps (subst (IsSorted (keys_cmp keys)) lifted.2 i.2.1) in
+    allows_Project vars (P.Order keys p) b sets [] [] rows (lifted.0, allows_Order keys p b sets [] [] lifted.0 (u.0, u.1, (lifted.1, sorted)), o.2 ∙ ap (map (cut vars)) lifted.2 ∙ cuts_cut vars rest lifted.0 into))

@@ -55,8 +55,8 @@ forget_within ds own r w d i q = (by_cases (is_among ds q) (λ t. lost_at ds r q
 new_forget : (ds own : List Var) (vs : List Value) (r : Env) → Disjoint ds own → with_new own vs (forget ds r) ≡ forget ds (with_new own vs r)
 new_forget ds own vs r d i q =
     (by_cases (is_among ds q)
-        (λ t. ap (λ b. if b then bind own vs q else forget ds r q) (d q t) ∙ lost_at ds r q t ∙ sym (lost_at ds (with_new own vs r) q t))
-        (λ f. ap (λ x. if is_among own q then bind own vs q else x) (kept_at ds r q f) ∙ sym (kept_at ds (with_new own vs r) q f))) i
+    (λ t. ap (λ b. if b then bind own vs q else forget ds r q) (d q t) ∙ lost_at ds r q t ∙ sym (lost_at ds (with_new own vs r) q t))
+    (λ f. ap (λ x. if is_among own q then bind own vs q else x) (kept_at ds r q f) ∙ sym (kept_at ds (with_new own vs r) q f))) i
 
 assigned_forget : (ds : List Var) (made : List (Var × Expr)) (r : Env) → Avoids ds (flat_map (λ m. names m.1) made) → Disjoint ds (map (λ m. m.0) made) → assigned made (forget ds r) ≡ forget ds (assigned made r)
 assigned_forget ds made r h d = ap (λ vs. with_new (map (λ m. m.0) made) vs (forget ds r)) (made-kept (forget ds) made r (keeps_forget ds (flat_map (λ m. names m.1) made) h)) ∙ new_forget ds (map (λ m. m.0) made) (map (λ m. eval m.1 r) made) r d
@@ -64,8 +64,8 @@ assigned_forget ds made r h d = ap (λ vs. with_new (map (λ m. m.0) made) vs (f
 cut_forget : (ds vars : List Var) (r : Env) → cut vars (forget ds r) ≡ forget ds (cut vars r)
 cut_forget ds vars r i q =
     (by_cases (is_among ds q)
-        (λ t. by_cases (is_among vars q) (λ u. ap (λ b. if b then forget ds r q else V.Null) u ∙ lost_at ds r q t) (λ u. ap (λ b. if b then forget ds r q else V.Null) u) ∙ sym (lost_at ds (cut vars r) q t))
-        (λ f. ap (λ x. if is_among vars q then x else V.Null) (kept_at ds r q f) ∙ sym (kept_at ds (cut vars r) q f))) i
+    (λ t. by_cases (is_among vars q) (λ u. ap (λ b. if b then forget ds r q else V.Null) u ∙ lost_at ds r q t) (λ u. ap (λ b. if b then forget ds r q else V.Null) u) ∙ sym (lost_at ds (cut vars r) q t))
+    (λ f. ap (λ x. if is_among vars q then x else V.Null) (kept_at ds r q f) ∙ sym (kept_at ds (cut vars r) q f))) i
 
 expanded_forget : (ds : List Var) (v : Var) (g : Generator) (r : Env) → Avoids ds (flat_map names (item_exprs g)) → Disjoint ds (v ∷ []) → expanded v g (forget ds r) ≡ map (forget ds) (expanded v g r)
 expanded_forget ds v g r h d = ap (λ xs. map (λ x. with_new (v ∷ []) (x ∷ []) (forget ds r)) xs) (items-kept (forget ds) g r (keeps_forget ds (flat_map names (item_exprs g)) h)) ∙ each (items g r)
@@ -146,10 +146,12 @@ module _ {S : Type 0} (up : S → Plan) (ih : (s : S) → Remembers (up s)) (the
   step (L.Aggregate made s) h e a d o =
       let both = parts ds (reads (up s)) (flat_map (λ m. flat_map names (agg_exprs m.1)) made) a in
       let own = map (λ (m : Var × AggCall). m.0) made in
-      let (whole, k, is) = ih s there h.0.0 e ds both.0 (left_part ds (makes (up s)) own d) b sets given known outer o.0 o.1 in
-      (agg_row made whole ∷ [], (whole, k, refl),
-       o.2 ∙ ap (λ zs. agg_row made zs ∷ []) is ∙ ap (λ vs. bind own vs ∷ []) (aggs-kept (forget ds) made whole (keeps_forget ds (flat_map (λ m. flat_map names (agg_exprs m.1)) made) both.1))
-       ∙ sym (ap (λ (r : Env). r ∷ []) (forget_within ds own (agg_row made whole) (within-bind own _) (right_part ds (makes (up s)) own d))))
+      let (whole, k, is) = ih s there h.0.0 e ds both.0 (left_part ds (makes (up s)) own d) b sets given known outer o.0 o.1 in (
+        agg_row made whole ∷ [],
+        (whole, k, refl),
+        o.2 ∙ ap (λ zs. agg_row made zs ∷ []) is ∙ ap (λ vs. bind own vs ∷ []) (aggs-kept (forget ds) made whole (keeps_forget ds (flat_map (λ m. flat_map names (agg_exprs m.1)) made) both.1))
+            ∙ sym (ap (λ (r : Env). r ∷ []) (forget_within ds own (agg_row made whole) (within-bind own _) (right_part ds (makes (up s)) own d))),
+      )
   step (L.Order keys s) h e a d o =
       let both = parts ds (reads (up s)) (map (λ k. k.var.name) keys) a in
       let (whole, k, is) = ih s there h.0.0 e ds both.0 d b sets given known outer o.0 o.1 in
@@ -164,11 +166,11 @@ module _ {S : Type 0} (up : S → Plan) (ih : (s : S) → Remembers (up s)) (the
 layer_remembers : {S : Type 0} (up : S → Plan) → ((s : S) → Remembers (up s)) → (y : L.Plan-F S) → Remembers (roll-Plan (map-Plan S Plan up y))
 layer_remembers {S} up ih y there fit e ds a d b sets given known outer rows o =
     let (whole, k, is) = step up ih there ds b sets given known outer rows y
-            (subst (λ (z : Bool → List Var → Type 0). z true there) (each-roll (map-Plan S Plan up y)) fit)
-            (sym (distinct-roll (map-Plan S Plan up y)) ∙ e)
-            (subst (Avoids ds) (reads-roll (map-Plan S Plan up y)) a)
-            (subst (Disjoint ds) (makes-roll (map-Plan S Plan up y)) d)
-            (unroll (map-Plan S Plan up y) b sets known (map (forget ds) outer) rows o) in
+    (subst (λ (z : Bool → List Var → Type 0). z true there) (each-roll (map-Plan S Plan up y)) fit)
+    (sym (distinct-roll (map-Plan S Plan up y)) ∙ e)
+    (subst (Avoids ds) (reads-roll (map-Plan S Plan up y)) a)
+    (subst (Disjoint ds) (makes-roll (map-Plan S Plan up y)) d)
+    (unroll (map-Plan S Plan up y) b sets known (map (forget ds) outer) rows o) in
     (whole, enroll (map-Plan S Plan up y) b sets given outer whole k, is)
 
 -- what a nested plan without a distinct allows over rows cut of variables that it doesn't name comes of what it allows over the rows

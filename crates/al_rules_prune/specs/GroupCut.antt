@@ -52,11 +52,11 @@ dropped_live vars p q e = right (not (is_among vars q)) (is_among (live p []) q)
 cut_is_forget : (vars : List Var) (p : Plan) (r : Env) → IsWithin (live p []) r → cut (kept vars p) r ≡ forget (dropped vars p) r
 cut_is_forget vars p r w i q = (by_cases (is_among vars q)
     (λ e. by_cases (is_among (live p []) q)
-        (λ d. ap (λ b. if b then r q else V.Null) (are_kept vars p q e d) ∙ sym (ap (λ b. if b then V.Null else r q) (not_dropped vars p q e)))
-        (λ d. ap (λ b. if b then r q else V.Null) (among_kept vars p q ∙ (λ j. e j && d j)) ∙ sym (w q d) ∙ sym (ap (λ b. if b then V.Null else r q) (not_dropped vars p q e))))
+    (λ d. ap (λ b. if b then r q else V.Null) (are_kept vars p q e d) ∙ sym (ap (λ b. if b then V.Null else r q) (not_dropped vars p q e)))
+    (λ d. ap (λ b. if b then r q else V.Null) (among_kept vars p q ∙ (λ j. e j && d j)) ∙ sym (w q d) ∙ sym (ap (λ b. if b then V.Null else r q) (not_dropped vars p q e))))
     (λ e. ap (λ b. if b then r q else V.Null) (among_kept vars p q ∙ ap (λ b. b && is_among (live p []) q) e) ∙ sym (by_cases (is_among (live p []) q)
-        (λ d. ap (λ b. if b then V.Null else r q) (among_dropped vars p q ∙ (λ j. not (e j) && d j)))
-        (λ d. ap (λ b. if b then V.Null else r q) (among_dropped vars p q ∙ (λ j. not (e j) && d j)) ∙ w q d)))) i
+    (λ d. ap (λ b. if b then V.Null else r q) (among_dropped vars p q ∙ (λ j. not (e j) && d j)))
+    (λ d. ap (λ b. if b then V.Null else r q) (among_dropped vars p q ∙ (λ j. not (e j) && d j)) ∙ w q d)))) i
 
 cuts_are_forgets : (vars : List Var) (p : Plan) (rows : List Env) → AllByRecursion (IsWithin (live p [])) rows → map (cut (kept vars p)) rows ≡ map (forget (dropped vars p)) rows
 cuts_are_forgets vars p [] h = refl
@@ -120,12 +120,15 @@ module _ (f : Env → Env) where
     ungrouping : (rows : List Env) (groups : List Group) → IsGrouping keys (map f rows) groups → (gs : List Group) × IsGrouping keys rows gs × (groups ≡ map on_group gs)
     ungrouping rows groups h =
         let (zs, moved, is) = IsPermutation-lift f rows (flat_map rows_in groups) h.moved in
-        let (gs, flat, are) = ungroup groups zs is in
-        (gs, record {
-          moved = subst (IsPermutation rows) flat moved;
-          alike = All-from_recursion (λ g. All (λ r. key_of keys r ≡ key_of keys g.0) g.1) gs (groups_alike gs (subst (AllByRecursion (λ g. All (λ r. key_of keys r ≡ key_of keys g.0) g.1)) are (recursion_from_All (λ g. All (λ r. key_of keys r ≡ key_of keys g.0) g.1) groups h.alike)));
-          apart = pairs_from_apart Differ gs (groups_apart gs (subst (Apart Differ) are (apart_from_pairs Differ groups h.apart)));
-        }, are)
+        let (gs, flat, are) = ungroup groups zs is in (
+          gs,
+          record {
+            moved = subst (IsPermutation rows) flat moved;
+            alike = All-from_recursion (λ g. All (λ r. key_of keys r ≡ key_of keys g.0) g.1) gs (groups_alike gs (subst (AllByRecursion (λ g. All (λ r. key_of keys r ≡ key_of keys g.0) g.1)) are (recursion_from_All (λ g. All (λ r. key_of keys r ≡ key_of keys g.0) g.1) groups h.alike)));
+            apart = pairs_from_apart Differ gs (groups_apart gs (subst (Apart Differ) are (apart_from_pairs Differ groups h.apart)));
+          },
+          are,
+        )
 
 -- ---- the nested plan over whole groups
 
@@ -208,16 +211,16 @@ group_project keys n p wide_enough fit =
     }) in
     let vars_are : live (P.Group keys n y) [] ≡ live (P.Group keys n p) [] = live-Group keys n y [] ∙ ap (λ vs. new ++ vs) same_inner ∙ sym (live-Group keys n p []) in
     kin_replaces (P.Group keys n y) (P.Group keys n p) fit whole vars_are (kin-Group keys n y p kin) (λ b sets rows fills k.
-        let o = from_Group keys n y b sets [] [] rows k in
-        let u = from_Project rest p b sets [] [] o.0 o.1 in
-        let mapped : o.0 ≡ map f u.0 = u.2 ∙ cuts_are_forgets all p u.0 (rows_within p b sets u.0 u.1) in
-        let (gs, grouping, are) = ungrouping f keys same_key u.0 o.2.0 (subst (λ (zs : List Env). IsGrouping keys zs o.2.0) mapped o.2.2) in
-        let zipped = zip_groups f
-                (λ g row. Gives (Allows n) b sets (live y []) (rows_in g) (λ inner. row ≡ with_new (new_of keys) (key_of keys g.0) inner))
-                (λ g row. Gives (Allows n) b sets (live p []) (rows_in g) (λ inner. row ≡ with_new (new_of keys) (key_of keys g.0) inner))
-                (λ g row m.
-                    let (ws, allowed, is) = remembers n (live p []) top.inner plain ds avoids apart b sets (live p []) (live y []) (rows_in g) (m.0 ∷ []) m.1 in
-                    let (w, one, image, within) = one_row f m.0 (IsWithin agg.own) ws is (agg.rows b sets (live p []) (rows_in g) ws allowed) in
-                    (w, subst (Allows n b sets (live p []) (rows_in g)) one allowed, m.2 ∙ (λ i. with_new (new_of keys) (same_key g.0 i) ((image ∙ forget_within ds agg.own w within own_apart) i))))
-                gs o.2.1 (subst (λ (hs : List Group). AllZip (λ g row. Gives (Allows n) b sets (live y []) (rows_in g) (λ inner. row ≡ with_new (new_of keys) (key_of keys g.0) inner)) hs o.2.1) are o.2.3) in
-        allows_Group keys n p b sets [] [] rows (u.0, u.1, (gs, o.2.1, grouping, zipped, o.2.4)))
+    let o = from_Group keys n y b sets [] [] rows k in
+    let u = from_Project rest p b sets [] [] o.0 o.1 in
+    let mapped : o.0 ≡ map f u.0 = u.2 ∙ cuts_are_forgets all p u.0 (rows_within p b sets u.0 u.1) in
+    let (gs, grouping, are) = ungrouping f keys same_key u.0 o.2.0 (subst (λ (zs : List Env). IsGrouping keys zs o.2.0) mapped o.2.2) in
+    let zipped = zip_groups f
+    (λ g row. Gives (Allows n) b sets (live y []) (rows_in g) (λ inner. row ≡ with_new (new_of keys) (key_of keys g.0) inner))
+    (λ g row. Gives (Allows n) b sets (live p []) (rows_in g) (λ inner. row ≡ with_new (new_of keys) (key_of keys g.0) inner))
+    (λ g row m.
+    let (ws, allowed, is) = remembers n (live p []) top.inner plain ds avoids apart b sets (live p []) (live y []) (rows_in g) (m.0 ∷ []) m.1 in
+    let (w, one, image, within) = one_row f m.0 (IsWithin agg.own) ws is (agg.rows b sets (live p []) (rows_in g) ws allowed) in
+    (w, subst (Allows n b sets (live p []) (rows_in g)) one allowed, m.2 ∙ (λ i. with_new (new_of keys) (same_key g.0 i) ((image ∙ forget_within ds agg.own w within own_apart) i))))
+    gs o.2.1 (subst (λ (hs : List Group). AllZip (λ g row. Gives (Allows n) b sets (live y []) (rows_in g) (λ inner. row ≡ with_new (new_of keys) (key_of keys g.0) inner)) hs o.2.1) are o.2.3) in
+    allows_Group keys n p b sets [] [] rows (u.0, u.1, (gs, o.2.1, grouping, zipped, o.2.4)))

@@ -97,7 +97,7 @@ join_less c vars f h all x y l r k b sets rows m =
     let (right, rights, right_is) = k.right b sets o.2.0 o.2.1 in
     let both = all_pairs (live l []) (live r []) (IsPair (live x []) (live l []) f h (cut all)) k.pair left right (rows_within l b sets left lefts) (rows_within r b sets right rights) in
     let mapped : pairs (live x []) c o.0 o.2.0 ≡ map (cut all) (pairs (live l []) c left right) =
-        (λ i. pairs (live x []) c (left_is i) (right_is i)) ∙ pairs_mapped (live x []) (live l []) f h (cut all) c k.same left right both in
+    (λ i. pairs (live x []) c (left_is i) (right_is i)) ∙ pairs_mapped (live x []) (live l []) f h (cut all) c k.same left right both in
     let (zs, moved, is) = IsPermutation-lift (cut all) (pairs (live l []) c left right) top.0 (subst (λ (ws : List Env). IsPermutation ws top.0) mapped o.2.2) in
     allows_Project vars (P.Join c l r) b sets [] [] rows (zs, allows_Join c l r b sets [] [] zs (left, lefts, (right, rights, moved)), top.2 ∙ ap (map (cut vars)) is ∙ cuts_cut vars all zs k.listed)
 
@@ -112,7 +112,7 @@ left_join_less c vars f h all x y l r k b sets rows m =
     let both = all_pairs (live l []) (live r []) (IsPair (live x []) (live l []) f h (cut all)) k.pair left right inside (rows_within r b sets right rights) in
     let single = each_within (live l []) (IsAlone (live x []) (live l []) f h (cut all)) k.alone left inside in
     let mapped : left_pairs (live x []) c o.0 o.2.0 ≡ map (cut all) (left_pairs (live l []) c left right) =
-        (λ i. left_pairs (live x []) c (left_is i) (right_is i)) ∙ left_pairs_mapped (live x []) (live l []) f h (cut all) c k.same left right both single in
+    (λ i. left_pairs (live x []) c (left_is i) (right_is i)) ∙ left_pairs_mapped (live x []) (live l []) f h (cut all) c k.same left right both single in
     let (zs, moved, is) = IsPermutation-lift (cut all) (left_pairs (live l []) c left right) top.0 (subst (λ (ws : List Env). IsPermutation ws top.0) mapped o.2.2) in
     allows_Project vars (P.LeftJoin c l r) b sets [] [] rows (zs, allows_LeftJoin c l r b sets [] [] zs (left, lefts, (right, rights, moved)), top.2 ∙ ap (map (cut vars)) is ∙ cuts_cut vars all zs k.listed)
 
@@ -129,7 +129,6 @@ record Cuts (c : Expr) (vars : List Var) (x y l r : Plan) : Type 1 where
   kin_left : Kin x l
   kin_right : Kin y r
 
-
 among_cut : (vars : List Var) (p : Plan) (q : Bytes) → is_among (live p []) q ≡ false → is_among (kept vars p) q ≡ false
 among_cut vars p q e = by_cases (is_among (kept vars p) q) (λ t. absurd (no (sym (kept_live vars p q t) ∙ e))) (λ t. t)
 
@@ -138,27 +137,27 @@ left_pair : (vars : List Var) (l r : Plan) → Disjoint (live l []) (live r []) 
     → beside (kept vars l) (cut (kept vars l) a) b ≡ cut (kept vars l ++ live r []) (beside (live l []) a b)
 left_pair vars l r apart a b w i q = (by_cases (is_among (kept vars l) q)
     (λ e.
-        let seen : is_among (kept vars l ++ live r []) q ≡ true = in_left (kept vars l) (live r []) q e in
-        ap (λ t. if t then cut (kept vars l) a q else b q) e ∙ ap (λ t. if t then a q else V.Null) e
-        ∙ sym (ap (λ t. if t then beside (live l []) a b q else V.Null) seen ∙ ap (λ t. if t then a q else b q) (kept_live vars l q e)))
+    let seen : is_among (kept vars l ++ live r []) q ≡ true = in_left (kept vars l) (live r []) q e in
+    ap (λ t. if t then cut (kept vars l) a q else b q) e ∙ ap (λ t. if t then a q else V.Null) e
+    ∙ sym (ap (λ t. if t then beside (live l []) a b q else V.Null) seen ∙ ap (λ t. if t then a q else b q) (kept_live vars l q e)))
     (λ e. ap (λ t. if t then cut (kept vars l) a q else b q) e ∙ by_cases (is_among (live r []) q)
-        (λ s.
-            let seen : is_among (kept vars l ++ live r []) q ≡ true = in_right (kept vars l) (live r []) q s in
-            let not_left : is_among (live l []) q ≡ false = by_cases (is_among (live l []) q) (λ t. absurd (no (sym s ∙ apart q t))) (λ t. t) in
-            sym (ap (λ t. if t then beside (live l []) a b q else V.Null) seen ∙ ap (λ t. if t then a q else b q) not_left))
-        (λ s.
-            let seen : is_among (kept vars l ++ live r []) q ≡ false = is_among-append (kept vars l) (live r []) q ∙ (λ j. e j || s j) in
-            w q s ∙ sym (ap (λ t. if t then beside (live l []) a b q else V.Null) seen)))) i
+    (λ s.
+    let seen : is_among (kept vars l ++ live r []) q ≡ true = in_right (kept vars l) (live r []) q s in
+    let not_left : is_among (live l []) q ≡ false = by_cases (is_among (live l []) q) (λ t. absurd (no (sym s ∙ apart q t))) (λ t. t) in
+    sym (ap (λ t. if t then beside (live l []) a b q else V.Null) seen ∙ ap (λ t. if t then a q else b q) not_left))
+    (λ s.
+    let seen : is_among (kept vars l ++ live r []) q ≡ false = is_among-append (kept vars l) (live r []) q ∙ (λ j. e j || s j) in
+    w q s ∙ sym (ap (λ t. if t then beside (live l []) a b q else V.Null) seen)))) i
 
 -- the right input cut: of the right row only what is kept is looked for
 right_pair : (vars : List Var) (l r : Plan) (a b : Env) → beside (live l []) a (cut (kept vars r) b) ≡ cut (live l [] ++ kept vars r) (beside (live l []) a b)
 right_pair vars l r a b i q = (by_cases (is_among (live l []) q)
     (λ e. ap (λ t. if t then a q else cut (kept vars r) b q) e
-        ∙ sym (ap (λ t. if t then beside (live l []) a b q else V.Null) (in_left (live l []) (kept vars r) q e) ∙ ap (λ t. if t then a q else b q) e))
+    ∙ sym (ap (λ t. if t then beside (live l []) a b q else V.Null) (in_left (live l []) (kept vars r) q e) ∙ ap (λ t. if t then a q else b q) e))
     (λ e.
-        let seen : is_among (live l [] ++ kept vars r) q ≡ is_among (kept vars r) q = is_among-append (live l []) (kept vars r) q ∙ ap (λ t. t || is_among (kept vars r) q) e in
-        ap (λ t. if t then a q else cut (kept vars r) b q) e
-        ∙ sym (ap (λ t. if t then beside (live l []) a b q else V.Null) seen ∙ ap (λ t. if is_among (kept vars r) q then (if t then a q else b q) else V.Null) e))) i
+    let seen : is_among (live l [] ++ kept vars r) q ≡ is_among (kept vars r) q = is_among-append (live l []) (kept vars r) q ∙ ap (λ t. t || is_among (kept vars r) q) e in
+    ap (λ t. if t then a q else cut (kept vars r) b q) e
+    ∙ sym (ap (λ t. if t then beside (live l []) a b q else V.Null) seen ∙ ap (λ t. if is_among (kept vars r) q then (if t then a q else b q) else V.Null) e))) i
 
 nulls_within : (vars : List Var) → IsWithin vars nulls
 nulls_within vars q e = refl
@@ -179,7 +178,7 @@ cut_left vars c l r h listed =
     let kin = kin_narrowed all l h.left_root in
     let live_is : live x [] ≡ rest = live-Project rest l [] in
     let still : (q : Bytes) → is_among all q ≡ true → is_among (live l [] ++ live r []) q ≡ true → is_among (rest ++ live r []) q ≡ true =
-        λ q e d. among_append (live l []) (live r []) rest (live r []) q d (λ t. are_kept all l q e t) (λ t. t) in
+    λ q e d. among_append (live l []) (live r []) rest (live r []) q d (λ t. are_kept all l q e t) (λ t. t) in
     let reads : AreAmong (rest ++ live r []) (names c) = both_among (live l [] ++ live r []) (rest ++ live r []) (names c) (λ q e. still q (in_right vars (read_by c) q e)) h.over.reads in
     let apart = live_apart l r h.left h.right h.once in
     let few = length_filter (λ (v : Var). is_among all v.name) (live l []) in
@@ -218,7 +217,7 @@ cut_right vars c l r h listed =
     let kin = kin_narrowed all r h.right_root in
     let live_is : live y [] ≡ rest = live-Project rest r [] in
     let still : (q : Bytes) → is_among all q ≡ true → is_among (live l [] ++ live r []) q ≡ true → is_among (live l [] ++ rest) q ≡ true =
-        λ q e d. among_append (live l []) (live r []) (live l []) rest q d (λ t. t) (λ t. are_kept all r q e t) in
+    λ q e d. among_append (live l []) (live r []) (live l []) rest q d (λ t. t) (λ t. are_kept all r q e t) in
     let reads : AreAmong (live l [] ++ rest) (names c) = both_among (live l [] ++ live r []) (live l [] ++ rest) (names c) (λ q e. still q (in_right vars (read_by c) q e)) h.over.reads in
     let few = length_filter (λ (v : Var). is_among all v.name) (live r []) in
     let inside : IsIn vars (live l [] ++ rest) = λ q e. still q (in_left vars (read_by c) q e) (listed q e) in record {
@@ -253,13 +252,13 @@ over_cuts false vars c x y l r fit k =
     let top = out_Project vars (P.Join c l r) fit in
     let whole = in_Project vars (P.Join c x y) (record { input = in_Join c x y k.fit; root = result-Join c x y; listed = subst (λ (vs : List Var). AreLive vs vars) (sym (live-Join c x y [])) (are_live (live x [] ++ live y []) vars k.listed); no_twice = top.no_twice; thin = top.thin }) in
     kin_replaces (P.Project vars (P.Join c x y)) (P.Project vars (P.Join c l r)) fit whole (live-Project vars (P.Join c x y) [] ∙ sym (live-Project vars (P.Join c l r) [])) (kin-Project vars (P.Join c x y) (P.Join c l r) (kin-Join c x l y r k.kin_left k.kin_right))
-        (λ b sets rows fills m. join_less c vars k.left_map k.right_map k.all x y l r k.agree b sets rows m)
+    (λ b sets rows fills m. join_less c vars k.left_map k.right_map k.all x y l r k.agree b sets rows m)
 over_cuts true vars c x y l r fit k =
     let top = out_Project vars (P.LeftJoin c l r) fit in
     let g = k.fit in
     let whole = in_Project vars (P.LeftJoin c x y) (record { input = in_LeftJoin c x y (record { left = g.left; left_root = g.left_root; right = g.right; right_root = g.right_root; over = g.over; thin = g.thin; once = g.once }); root = result-LeftJoin c x y; listed = subst (λ (vs : List Var). AreLive vs vars) (sym (live-LeftJoin c x y [])) (are_live (live x [] ++ live y []) vars k.listed); no_twice = top.no_twice; thin = top.thin }) in
     kin_replaces (P.Project vars (P.LeftJoin c x y)) (P.Project vars (P.LeftJoin c l r)) fit whole (live-Project vars (P.LeftJoin c x y) [] ∙ sym (live-Project vars (P.LeftJoin c l r) [])) (kin-Project vars (P.LeftJoin c x y) (P.LeftJoin c l r) (kin-LeftJoin c x l y r k.kin_left k.kin_right))
-        (λ b sets rows fills m. left_join_less c vars k.left_map k.right_map k.all x y l r k.agree b sets rows m)
+    (λ b sets rows fills m. left_join_less c vars k.left_map k.right_map k.all x y l r k.agree b sets rows m)
 
 -- what a join or a left join asks of its inputs
 joined_fits : (left : Bool) (vars : List Var) (c : Expr) (l r : Plan) → Fit (P.Project vars (joined left c l r)) → JoinFits c l r × IsIn vars (live l [] ++ live r [])
@@ -275,10 +274,10 @@ pub project_below_join : (left : Bool) (vars : List Var) (c : Expr) (l r x y : P
 project_below_join left vars c l r x y (inl (is_wide, x_is, y_is)) fit =
     let (h, listed) = joined_fits left vars c l r fit in
     subst (λ (z : Plan). Replaces (P.Project vars (joined left c z y)) (P.Project vars (joined left c l r))) (sym x_is)
-        (subst (λ (z : Plan). Replaces (P.Project vars (joined left c (narrowed (vars ++ read_by c) l) z)) (P.Project vars (joined left c l r))) (sym y_is)
-            (over_cuts left vars c (narrowed (vars ++ read_by c) l) r l r fit (cut_left vars c l r h listed)))
+    (subst (λ (z : Plan). Replaces (P.Project vars (joined left c (narrowed (vars ++ read_by c) l) z)) (P.Project vars (joined left c l r))) (sym y_is)
+    (over_cuts left vars c (narrowed (vars ++ read_by c) l) r l r fit (cut_left vars c l r h listed)))
 project_below_join left vars c l r x y (inr (not_wide, is_wide, x_is, y_is)) fit =
     let (h, listed) = joined_fits left vars c l r fit in
     subst (λ (z : Plan). Replaces (P.Project vars (joined left c z y)) (P.Project vars (joined left c l r))) (sym x_is)
-        (subst (λ (z : Plan). Replaces (P.Project vars (joined left c l z)) (P.Project vars (joined left c l r))) (sym y_is)
-            (over_cuts left vars c l (narrowed (vars ++ read_by c) r) l r fit (cut_right vars c l r h listed)))
+    (subst (λ (z : Plan). Replaces (P.Project vars (joined left c l z)) (P.Project vars (joined left c l r))) (sym y_is)
+    (over_cuts left vars c l (narrowed (vars ++ read_by c) r) l r fit (cut_right vars c l r h listed)))

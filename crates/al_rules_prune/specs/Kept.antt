@@ -126,7 +126,7 @@ module _ {S : Type 0} (up : S → Plan) (ih : (s : S) → IsThin (up s)) (given 
 layer_thin : {S : Type 0} (up : S → Plan) → ((s : S) → IsThin (up s)) → (y : L.Plan-F S) → IsThin (roll-Plan (map-Plan S Plan up y))
 layer_thin {S} up ih y given h n =
     subst (λ (f : List Var → List Var). AtMost64 (f given)) (sym (live-roll (map-Plan S Plan up y)))
-        (thin_step up ih given y (subst (λ (z : Bool → List Var → Type 0). z false given) (each-roll (map-Plan S Plan up y)) h) (subst (λ (z : List Var → Type 0). z given) (narrow-roll (map-Plan S Plan up y)) n))
+    (thin_step up ih given y (subst (λ (z : Bool → List Var → Type 0). z false given) (each-roll (map-Plan S Plan up y)) h) (subst (λ (z : List Var → Type 0). z given) (narrow-roll (map-Plan S Plan up y)) n))
 
 thin_at : (p : Plan) → IsThin p
 thin_at = ind-Plan IsThin (λ x y e. subst (λ (z : L.Plan-F Plan). IsThin (roll-Plan z)) e (layer_thin (λ s. s.0) (λ s. s.1) y))

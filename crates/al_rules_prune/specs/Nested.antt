@@ -123,7 +123,7 @@ module _ {S : Type 0} (up : S → Plan) (ih : (s : S) → Suits (up s)) (given k
 layer_suits : {S : Type 0} (up : S → Plan) → ((s : S) → Suits (up s)) → (y : L.Plan-F S) → Suits (roll-Plan (map-Plan S Plan up y))
 layer_suits {S} up ih y given known h k =
     subst (λ (z : Bool → List Var → Type 0). z true known) (sym (each-roll (map-Plan S Plan up y)))
-        (suit_step up ih given known y (subst (PassAll given known) (reads-roll (map-Plan S Plan up y)) h) (subst (λ (z : Bool → List Var → Type 0). z true given) (each-roll (map-Plan S Plan up y)) k))
+    (suit_step up ih given known y (subst (PassAll given known) (reads-roll (map-Plan S Plan up y)) h) (subst (λ (z : Bool → List Var → Type 0). z true given) (each-roll (map-Plan S Plan up y)) k))
 
 -- a nested plan that fits still does where all of the outer variables that it reads stay
 pub suits : (p : Plan) → Suits p

@@ -64,11 +64,11 @@ set_permutation (x ∷ xs) ys h g f k =
     let not_front : is_among c.front x.name ≡ false = by_cases (is_among c.front x.name) (λ t. absurd (no (sym (at_head x c.back) ∙ apart_here x.name t))) (λ t. t) in
     let not_rest : is_among (c.front ++ c.back) x.name ≡ false = not_append c.front c.back x.name not_front back.0 in
     let inside : IsIn xs (c.front ++ c.back) = λ q e. by_cases (pointwise nat_eq x.name q)
-        (λ same. absurd (no (sym e ∙ ap (is_among xs) (sym (same_text x.name q (sym same))) ∙ h.0)))
-        (λ other. sym (among_without c.front x c.back q other) ∙ ap (λ vs. is_among vs q) (sym c.is) ∙ f q (in_tail x xs q e)) in
+    (λ same. absurd (no (sym e ∙ ap (is_among xs) (sym (same_text x.name q (sym same))) ∙ h.0)))
+    (λ other. sym (among_without c.front x c.back q other) ∙ ap (λ vs. is_among vs q) (sym c.is) ∙ f q (in_tail x xs q e)) in
     let outside : IsIn (c.front ++ c.back) xs = λ q e. by_cases (pointwise nat_eq x.name q)
-        (λ same. absurd (no (sym e ∙ ap (is_among (c.front ++ c.back)) (sym (same_text x.name q (sym same))) ∙ not_rest)))
-        (λ other. ap (λ b. b || is_among xs q) (sym other) ∙ k q (ap (λ vs. is_among vs q) c.is ∙ among_with c.front x c.back q e)) in
+    (λ same. absurd (no (sym e ∙ ap (is_among (c.front ++ c.back)) (sym (same_text x.name q (sym same))) ∙ not_rest)))
+    (λ other. ap (λ b. b || is_among xs q) (sym other) ∙ k q (ap (λ vs. is_among vs q) c.is ∙ among_with c.front x c.back q e)) in
     let moved = IsPermutation-cons x xs _ (set_permutation xs (c.front ++ c.back) h.1 rest_once inside outside) in
     subst (IsPermutation (x ∷ xs)) (sym c.is) (IsPermutation-trans _ _ _ moved (IsPermutation-sym _ _ (IsPermutation-middle c.front x c.back)))
   where

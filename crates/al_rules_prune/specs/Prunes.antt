@@ -1,9 +1,11 @@
 -- The rules of pruning: what each rewrites, under which condition, and to what.
-use Rattle.std.specs.Prelude.{◌≡◌, ◌⊎◌, Bool, true, false, not, List, [], ◌∷◌, ◌++◌, map, filter, if◌then◌else◌}
+use Rattle.std.specs.Prelude.{◌≡◌, ◌⊎◌, Bool, true, false, not, ◌||◌, List, [], ◌∷◌, ◌++◌, map, filter, if◌then◌else◌}
 use Rattle.std.specs.List.{flat_map, list_all}
 use Rattle.al_plan.specs.declared.expr.Var.{Var}
 use Rattle.al_plan.specs.declared.expr.Expr.{Expr}
 use Rattle.al_plan.specs.declared.plan.AggCall.{AggCall}
+use Rattle.al_plan.specs.declared.plan.Generator.{Generator}
+use Rattle.al_plan.specs.declared.plan.Generator.TheVariants as G
 use Rattle.al_plan.specs.declared.plan.OrderKey.{OrderKey}
 use Rattle.al_plan.specs.declared.plan.Plan.{Plan}
 use Rattle.al_plan.specs.declared.plan.Plan.TheVariants as P
@@ -21,6 +23,11 @@ read_by e = map named (names e)
 -- those that aggregates read
 abbrev pub read_by_aggregates : List (Var × AggCall) → List Var
 read_by_aggregates made = flat_map (λ m. flat_map read_by (agg_exprs m.1)) made
+
+-- whether a generator reads a variable of this name
+abbrev pub reads_items : Generator → Bytes → Bool
+reads_items (G.Range a b) q = is_among (read_by a) q || is_among (read_by b) q
+reads_items (G.Split t s) q = is_among (read_by t) q || is_among (read_by s) q
 
 -- those that a nested plan uses of its outer rows: all of them where it has a distinct
 abbrev pub used_by : Plan → Plan → List Var

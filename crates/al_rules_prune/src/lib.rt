@@ -2,11 +2,13 @@
 #![tactic(auto)]
 
 mod cuts;
+mod group;
 mod join;
 mod parts;
 mod projects;
 mod wanted;
 
 pub use cuts::{AggregateProjectInput, ProjectBelowOrder, ProjectBelowSelect, ResultProject};
+pub use group::GroupProjectInput;
 pub use join::ProjectBelowJoin;
 pub use projects::{AssignUnderProject, ProjectAll, ProjectOverProject};

@@ -173,7 +173,7 @@ pub struct ListedOrKeys<'a> {
     pub keys: &'a [OrderKey],
 }
 
-fn orders_by(keys: &[OrderKey], v: &Var) -> bool
+pub fn orders_by(keys: &[OrderKey], v: &Var) -> bool
     ensures { result ≡ list_any (λ k. pointwise nat_eq k.var.name v.now.name) keys.now }
 {
     keys.iter().any(|k| k.var.name == v.name)
@@ -207,7 +207,7 @@ pub struct ReadByCalls<'a> {
     pub made: &'a [(Var, AggCall)],
 }
 
-fn any_call_reads(made: &[(Var, AggCall)], v: &Var) -> bool
+pub fn any_call_reads(made: &[(Var, AggCall)], v: &Var) -> bool
     ensures { result ≡ is_among (meaning.read_by_aggregates made.now) v.now.name }
 {
     for m in made {

@@ -14,4 +14,4 @@ pub returns-else-inside : goal.returns-else-inside
 returns-else-inside c =
     let other : c.is_wide-wide.result ≡ wide c.args.vars.now c.args.p.now = search rules in
     subst (λ (b : Bool). Decides b (HaveSame c.args.vars.now (live c.args.p.now []))) (sym c.if-inside.false)
-        (decides_same c.args.vars.now c.args.p.now false c.is_wide-wide.result (sym c.if-inside.false ∙ c.all_live-inside.ensures) other)
+    (decides_same c.args.vars.now c.args.p.now false c.is_wide-wide.result (sym c.if-inside.false ∙ c.all_live-inside.ensures) other)
