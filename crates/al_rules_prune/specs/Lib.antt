@@ -12,3 +12,5 @@ pub mod Nested
 pub mod GroupCut
 pub mod Sound
 pub mod Matching
+pub mod PruneSet
+pub mod Falls
