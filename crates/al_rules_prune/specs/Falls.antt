@@ -7,7 +7,10 @@ use Rattle.al_plan.specs.declared.plan.Plan.TheOpen as L
 use Rattle.al_plan.specs.Allows.{live, live_step}
 use Rattle.al_plan.specs.Refines.{Fit, Replaces}
 use Rattle.al_plan.proofs.PlanLaws.{live-roll}
+use Rattle.std.proofs.lemmas.List.Sorted.{length_permutation}
 use Rattle.al_rule.specs.Counts.{total}
+use Rattle.al_rule.specs.Places.{Rewriting, Applied}
+use Rattle.al_rule.proofs.EntryLaws.{IsSound}
 use Rattle.al_rule.proofs.PlaceLaws.{Around, around, layer, rolls_around, assign, select, project, unnest, subplan, join_left, join_right, left_join_left, left_join_right, group, distinct, union_left, union_right, aggregate, order, limit, check, result, applied_goes_up, replaces_under}
 use Rattle.al_rules_prune.specs.PruneSet.{Sized, sized, sized_step, widths, unless_project, projects_and_bindings, count_step}
 
@@ -91,3 +94,81 @@ slims_shifted k m w c v d (inr h) = inr (omega (arith, h.0), omega (arith, h.1))
 pub slims_weight : (w c v d : ℕ) → Slims w c v d → 2 * w + c < 2 * v + d
 slims_weight w c v d (inl h) = omega (arith, h.0, h.1)
 slims_weight w c v d (inr h) = omega (arith, h.0, h.1)
+
+-- an operator's number is its input's and more, and the more hangs on the input's width alone
+abbrev Shifts : ℕ → ℕ → ℕ → ℕ → Type 0
+Shifts a b w v = (k : ℕ) × (a ≡ k + w) × (b ≡ k + v)
+
+abbrev widths_of : L.Plan-F Plan → ℕ
+widths_of x = unless_project (map-Plan Plan ℕ width x) + total (map-Plan Plan ℕ widths x)
+
+abbrev count_of : L.Plan-F Plan → ℕ
+count_of x = count_step (map-Plan Plan ℕ projects_and_bindings x)
+
+widths_shift : (a : Around) (y x : Plan) → width y ≡ width x → Shifts (widths_of (layer a y)) (widths_of (layer a x)) (widths y) (widths x)
+widths_shift (assign made) y x e = (width x, omega (arith, e), refl)
+widths_shift (select c) y x e = (width x, omega (arith, e), refl)
+widths_shift (project vars) y x e = (0, refl, refl)
+widths_shift (unnest v its) y x e = (width x, omega (arith, e), refl)
+widths_shift (subplan n) y x e = (width x, omega (arith, e), refl)
+widths_shift (join_left c r) y x e = ((width x + width r) + widths r, omega (arith, e), omega arith)
+widths_shift (join_right c l) y x e = ((width l + width x) + widths l, omega (arith, e), omega arith)
+widths_shift (left_join_left c r) y x e = ((width x + width r) + widths r, omega (arith, e), omega arith)
+widths_shift (left_join_right c l) y x e = ((width l + width x) + widths l, omega (arith, e), omega arith)
+widths_shift (group keys n) y x e = (width x, omega (arith, e), refl)
+widths_shift distinct y x e = (width x, omega (arith, e), refl)
+widths_shift (union_left made ls rs r) y x e = ((width x + width r) + widths r, omega (arith, e), omega arith)
+widths_shift (union_right made ls rs l) y x e = ((width l + width x) + widths l, omega (arith, e), omega arith)
+widths_shift (aggregate made) y x e = (width x, omega (arith, e), refl)
+widths_shift (order keys) y x e = (width x, omega (arith, e), refl)
+widths_shift (limit n k) y x e = (width x, omega (arith, e), refl)
+widths_shift (check name c) y x e = (width x, omega (arith, e), refl)
+widths_shift (result vars) y x e = (width x, omega (arith, e), refl)
+
+count_shift : (a : Around) (y x : Plan) → Shifts (count_of (layer a y)) (count_of (layer a x)) (projects_and_bindings y) (projects_and_bindings x)
+count_shift (assign made) y x = (length made, refl, refl)
+count_shift (select c) y x = (0, omega arith, omega arith)
+count_shift (project vars) y x = (1, omega arith, omega arith)
+count_shift (unnest v its) y x = (0, omega arith, omega arith)
+count_shift (subplan n) y x = (0, omega arith, omega arith)
+count_shift (join_left c r) y x = (projects_and_bindings r, omega arith, omega arith)
+count_shift (join_right c l) y x = (projects_and_bindings l, refl, refl)
+count_shift (left_join_left c r) y x = (projects_and_bindings r, omega arith, omega arith)
+count_shift (left_join_right c l) y x = (projects_and_bindings l, refl, refl)
+count_shift (group keys n) y x = (0, omega arith, omega arith)
+count_shift distinct y x = (0, omega arith, omega arith)
+count_shift (union_left made ls rs r) y x = (projects_and_bindings r, omega arith, omega arith)
+count_shift (union_right made ls rs l) y x = (projects_and_bindings l, refl, refl)
+count_shift (aggregate made) y x = (0, omega arith, omega arith)
+count_shift (order keys) y x = (0, omega arith, omega arith)
+count_shift (limit n k) y x = (0, omega arith, omega arith)
+count_shift (check name c) y x = (0, omega arith, omega arith)
+count_shift (result vars) y x = (0, omega arith, omega arith)
+
+-- what a rule of pruning does to the numbers of a plan
+abbrev pub Prunes : Plan → Plan → Type 0
+Prunes y x = Slims (widths y) (projects_and_bindings y) (widths x) (projects_and_bindings x)
+
+widths_around : (a : Around) (p : Plan) → widths (around a p) ≡ widths_of (layer a p)
+widths_around a p = ap widths (sym (rolls_around a p)) ∙ widths-roll (layer a p)
+
+count_around : (a : Around) (p : Plan) → projects_and_bindings (around a p) ≡ count_of (layer a p)
+count_around a p = ap projects_and_bindings (sym (rolls_around a p)) ∙ count-roll (layer a p)
+
+pub prunes_around : (a : Around) (y x : Plan) → width y ≡ width x → Prunes y x → Prunes (around a y) (around a x)
+prunes_around a y x e h =
+    let (k, wy, wx) = widths_shift a y x e in
+    let (m, cy, cx) = count_shift a y x in
+    subst (λ (w : ℕ). Slims w (projects_and_bindings (around a y)) (widths (around a x)) (projects_and_bindings (around a x))) (sym (widths_around a y ∙ wy))
+        (subst (λ (c : ℕ). Slims (k + widths y) c (widths (around a x)) (projects_and_bindings (around a x))) (sym (count_around a y ∙ cy))
+            (subst (λ (v : ℕ). Slims (k + widths y) (m + projects_and_bindings y) v (projects_and_bindings (around a x))) (sym (widths_around a x ∙ wx))
+                (subst (λ (d : ℕ). Slims (k + widths y) (m + projects_and_bindings y) (k + widths x) d) (sym (count_around a x ∙ cx))
+                    (slims_shifted k m (widths y) (projects_and_bindings y) (widths x) (projects_and_bindings x) h))))
+
+same_width : (y x : Plan) → Replaces y x → width y ≡ width x
+same_width y x h = omega (arith, length_permutation (live x []) (live y []) (h.refines.vars []))
+
+-- what a rule does to the numbers of a part it does to those of the whole plan
+pub prunes_at : (R : Rewriting) → IsSound R → ((x y : Plan) → Fit x → R x y → Prunes y x) → (place : List ℕ) (p q : Plan) → Fit p → Applied R place p q → Prunes q p
+prunes_at R sound here place p q fit h =
+    (applied_goes_up R (λ y x. Replaces y x × Prunes y x) (λ x y f r. (sound x y f r, here x y f r)) (λ a x y f k. (replaces_under a y x f k.0, prunes_around a y x (same_width y x k.0) k.1)) place p q fit h).1
