@@ -1,5 +1,5 @@
 -- What falls where a rule of pruning is applied.
-use Rattle.std.proofs.Common.{◌≡◌, ◌<◌, ◌≤◌, ◌+◌, ◌*◌, ◌⊎◌, inl, inr, ℕ, zero, suc, Bool, true, false, List, [], ◌∷◌, ◌++◌, map, length, refl, ap, sym, subst, ◌∙◌, arith}
+use Rattle.std.proofs.Common.{not, cond, filter, ◌&&◌, ◌≡◌, ◌<◌, ◌≤◌, ◌+◌, ◌*◌, ◌⊎◌, inl, inr, ℕ, zero, suc, Bool, true, false, List, [], ◌∷◌, ◌++◌, map, length, refl, ap, sym, subst, ◌∙◌, arith}
 use Rattle.al_plan.specs.declared.expr.Var.{Var}
 use Rattle.al_plan.specs.declared.plan.Plan.{Plan, map-Plan, roll-Plan, fold-roll-Plan, ind-Plan}
 use Rattle.al_plan.specs.declared.plan.Plan.TheVariants as P
@@ -12,6 +12,11 @@ use Rattle.al_rule.specs.Counts.{total}
 use Rattle.al_rule.specs.Places.{Rewriting, Applied}
 use Rattle.al_rule.proofs.EntryLaws.{IsSound}
 use Rattle.al_rule.proofs.PlaceLaws.{Around, around, layer, rolls_around, assign, select, project, unnest, subplan, join_left, join_right, left_join_left, left_join_right, group, distinct, union_left, union_right, aggregate, order, limit, check, result, applied_goes_up, replaces_under}
+use Rattle.al_plan.specs.Allows.{is_among}
+use Rattle.al_plan.proofs.Bools.{no}
+use Rattle.al_plan.proofs.PlanLaws.{live-Project}
+use Rattle.al_rules_prune.specs.Prunes.{all_among, kept, narrowed, IsWide}
+use Rattle.al_rules_prune.specs.Kept.{length_filter}
 use Rattle.al_rules_prune.specs.PruneSet.{Sized, sized, sized_step, widths, unless_project, projects_and_bindings, count_step}
 
 sized-roll : (x : L.Plan-F Plan) → sized (roll-Plan x) ≡ sized_step (map-Plan Plan Sized sized x)
@@ -172,3 +177,48 @@ same_width y x h = omega (arith, length_permutation (live x []) (live y []) (h.r
 pub prunes_at : (R : Rewriting) → IsSound R → ((x y : Plan) → Fit x → R x y → Prunes y x) → (place : List ℕ) (p q : Plan) → Fit p → Applied R place p q → Prunes q p
 prunes_at R sound here place p q fit h =
     (applied_goes_up R (λ y x. Replaces y x × Prunes y x) (λ x y f r. (sound x y f r, here x y f r)) (λ a x y f k. (replaces_under a y x f k.0, prunes_around a y x (same_width y x k.0) k.1)) place p q fit h).1
+
+-- ---- an input that is cut
+
+abbrev pub counts_width : Around → Bool
+counts_width (project vars) = false
+counts_width _ = true
+
+narrower : (a : Around) (y x : Plan) → counts_width a ≡ true → suc (width y) ≤ width x → widths y ≡ widths x → suc (widths_of (layer a y)) ≤ widths_of (layer a x)
+narrower (assign made) y x t h e = omega (arith, h, e)
+narrower (select c) y x t h e = omega (arith, h, e)
+narrower (project vars) y x t h e = absurd (no (sym t))
+narrower (unnest v its) y x t h e = omega (arith, h, e)
+narrower (subplan n) y x t h e = omega (arith, h, e)
+narrower (join_left c r) y x t h e = omega (arith, h, e)
+narrower (join_right c l) y x t h e = omega (arith, h, e)
+narrower (left_join_left c r) y x t h e = omega (arith, h, e)
+narrower (left_join_right c l) y x t h e = omega (arith, h, e)
+narrower (group keys n) y x t h e = omega (arith, h, e)
+narrower distinct y x t h e = omega (arith, h, e)
+narrower (union_left made ls rs r) y x t h e = omega (arith, h, e)
+narrower (union_right made ls rs l) y x t h e = omega (arith, h, e)
+narrower (aggregate made) y x t h e = omega (arith, h, e)
+narrower (order keys) y x t h e = omega (arith, h, e)
+narrower (limit n k) y x t h e = omega (arith, h, e)
+narrower (check name c) y x t h e = omega (arith, h, e)
+narrower (result vars) y x t h e = omega (arith, h, e)
+
+fewer : (vars xs : List Var) → not (all_among vars xs) ≡ true → suc (length (filter (λ v. is_among vars v.name) xs)) ≤ length xs
+fewer vars [] h = absurd (no (sym h))
+fewer vars (x ∷ xs) h = go (is_among vars x.name) h (length_filter (λ (v : Var). is_among vars v.name) xs) (fewer vars xs)
+  where
+    go : (b : Bool) → not (b && all_among vars xs) ≡ true → length (filter (λ v. is_among vars v.name) xs) ≤ length xs → (not (all_among vars xs) ≡ true → suc (length (filter (λ v. is_among vars v.name) xs)) ≤ length xs)
+        → suc (length (cond b (x ∷ filter (λ v. is_among vars v.name) xs) (filter (λ v. is_among vars v.name) xs))) ≤ suc (length xs)
+    go true h few more = omega (arith, more h)
+    go false h few more = omega (arith, few)
+
+-- an operator but a project over an input that is cut has fewer variables there, and one project more
+pub cut_prunes : (a : Around) (vars : List Var) (x : Plan) → counts_width a ≡ true → IsWide vars x → Prunes (around a (narrowed vars x)) (around a x)
+cut_prunes a vars x t h =
+    let y = narrowed vars x in
+    let same : widths y ≡ widths x = omega (arith, widths_around (project (kept vars x)) x) in
+    let less : suc (width y) ≤ width x = omega (arith, ap length (live-Project (kept vars x) x []), fewer vars (live x []) h) in
+    let one : projects_and_bindings y ≡ suc (projects_and_bindings x) = count_around (project (kept vars x)) x in
+    let (m, cy, cx) = count_shift a y x in
+    inl (omega (arith, narrower a y x t less same, widths_around a y, widths_around a x), omega (arith, one, cy, cx, count_around a y, count_around a x))
