@@ -154,21 +154,27 @@ count_shift (result vars) y x = (0, omega arith, omega arith)
 abbrev pub Prunes : Plan → Plan → Type 0
 Prunes y x = Slims (widths y) (projects_and_bindings y) (widths x) (projects_and_bindings x)
 
-widths_around : (a : Around) (p : Plan) → widths (around a p) ≡ widths_of (layer a p)
+pub widths_around : (a : Around) (p : Plan) → widths (around a p) ≡ widths_of (layer a p)
 widths_around a p = ap widths (sym (rolls_around a p)) ∙ widths-roll (layer a p)
 
-count_around : (a : Around) (p : Plan) → projects_and_bindings (around a p) ≡ count_of (layer a p)
+pub count_around : (a : Around) (p : Plan) → projects_and_bindings (around a p) ≡ count_of (layer a p)
 count_around a p = ap projects_and_bindings (sym (rolls_around a p)) ∙ count-roll (layer a p)
 
-pub prunes_around : (a : Around) (y x : Plan) → width y ≡ width x → Prunes y x → Prunes (around a y) (around a x)
-prunes_around a y x e h =
-    let (k, wy, wx) = widths_shift a y x e in
+prunes_shifted : (a : Around) (y x : Plan) → Shifts (widths_of (layer a y)) (widths_of (layer a x)) (widths y) (widths x) → Prunes y x → Prunes (around a y) (around a x)
+prunes_shifted a y x (k, wy, wx) h =
     let (m, cy, cx) = count_shift a y x in
     subst (λ (w : ℕ). Slims w (projects_and_bindings (around a y)) (widths (around a x)) (projects_and_bindings (around a x))) (sym (widths_around a y ∙ wy))
         (subst (λ (c : ℕ). Slims (k + widths y) c (widths (around a x)) (projects_and_bindings (around a x))) (sym (count_around a y ∙ cy))
             (subst (λ (v : ℕ). Slims (k + widths y) (m + projects_and_bindings y) v (projects_and_bindings (around a x))) (sym (widths_around a x ∙ wx))
                 (subst (λ (d : ℕ). Slims (k + widths y) (m + projects_and_bindings y) (k + widths x) d) (sym (count_around a x ∙ cx))
                     (slims_shifted k m (widths y) (projects_and_bindings y) (widths x) (projects_and_bindings x) h))))
+
+pub prunes_around : (a : Around) (y x : Plan) → width y ≡ width x → Prunes y x → Prunes (around a y) (around a x)
+prunes_around a y x e h = prunes_shifted a y x (widths_shift a y x e) h
+
+-- a project does not count its input's width, which may change
+pub under_project : (vars : List Var) (y x : Plan) → Prunes y x → Prunes (P.Project vars y) (P.Project vars x)
+under_project vars y x h = prunes_shifted (project vars) y x (0, refl, refl) h
 
 same_width : (y x : Plan) → Replaces y x → width y ≡ width x
 same_width y x h = omega (arith, length_permutation (live x []) (live y []) (h.refines.vars []))

@@ -14,3 +14,4 @@ pub mod Sound
 pub mod Matching
 pub mod PruneSet
 pub mod Falls
+pub mod Shown
