@@ -164,10 +164,10 @@ prunes_shifted : (a : Around) (y x : Plan) → Shifts (widths_of (layer a y)) (w
 prunes_shifted a y x (k, wy, wx) h =
     let (m, cy, cx) = count_shift a y x in
     subst (λ (w : ℕ). Slims w (projects_and_bindings (around a y)) (widths (around a x)) (projects_and_bindings (around a x))) (sym (widths_around a y ∙ wy))
-        (subst (λ (c : ℕ). Slims (k + widths y) c (widths (around a x)) (projects_and_bindings (around a x))) (sym (count_around a y ∙ cy))
-            (subst (λ (v : ℕ). Slims (k + widths y) (m + projects_and_bindings y) v (projects_and_bindings (around a x))) (sym (widths_around a x ∙ wx))
-                (subst (λ (d : ℕ). Slims (k + widths y) (m + projects_and_bindings y) (k + widths x) d) (sym (count_around a x ∙ cx))
-                    (slims_shifted k m (widths y) (projects_and_bindings y) (widths x) (projects_and_bindings x) h))))
+    (subst (λ (c : ℕ). Slims (k + widths y) c (widths (around a x)) (projects_and_bindings (around a x))) (sym (count_around a y ∙ cy))
+    (subst (λ (v : ℕ). Slims (k + widths y) (m + projects_and_bindings y) v (projects_and_bindings (around a x))) (sym (widths_around a x ∙ wx))
+    (subst (λ (d : ℕ). Slims (k + widths y) (m + projects_and_bindings y) (k + widths x) d) (sym (count_around a x ∙ cx))
+    (slims_shifted k m (widths y) (projects_and_bindings y) (widths x) (projects_and_bindings x) h))))
 
 pub prunes_around : (a : Around) (y x : Plan) → width y ≡ width x → Prunes y x → Prunes (around a y) (around a x)
 prunes_around a y x e h = prunes_shifted a y x (widths_shift a y x e) h

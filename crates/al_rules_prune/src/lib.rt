@@ -6,9 +6,11 @@ mod group;
 mod join;
 mod parts;
 mod projects;
+mod set;
 mod wanted;
 
 pub use cuts::{AggregateProjectInput, ProjectBelowOrder, ProjectBelowSelect, ResultProject};
 pub use group::GroupProjectInput;
 pub use join::ProjectBelowJoin;
 pub use projects::{AssignUnderProject, ProjectAll, ProjectOverProject};
+pub use set::PruneSet;
