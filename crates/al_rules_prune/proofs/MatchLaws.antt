@@ -1,5 +1,5 @@
 -- Which plans the rules of pruning rewrite.
-use Rattle.std.proofs.Common.{◌≡◌, ◌⊎◌, inl, inr, ℕ, Bool, true, false, not, ◌&&◌, List, [], ◌∷◌, ◌++◌, map, refl, ap, sym, subst, ◌∙◌, Option, Some, None, Result, Ok, Err, IfOk}
+use Rattle.std.proofs.Common.{◌≡◌, inl, inr, Bool, true, false, not, ◌&&◌, List, [], ◌∷◌, ◌++◌, map, refl, ap, sym, subst, ◌∙◌, Option, Some, None, Result, Ok, Err, IfOk}
 use Rattle.al_value.specs.declared.fault.NoMemory.{NoMemory}
 use Rattle.al_plan.specs.declared.expr.Var.{Var}
 use Rattle.al_plan.specs.declared.expr.Expr.{Expr}
@@ -15,9 +15,8 @@ use Rattle.al_plan.specs.Allows.{live, is_among}
 use Rattle.al_plan.proofs.Makes.{at_head}
 use Rattle.al_plan.specs.Refines.{Fit, Replaces}
 use Rattle.al_plan.proofs.Bools.{no, by_cases}
-use Rattle.al_rule.specs.declared.rule.ApplyFault.{ApplyFault}
 use Rattle.al_rule.specs.Places.{Rewriting}
-use Rattle.al_rule.specs.Rules.{Decides, Matches, HandsBack}
+use Rattle.al_rule.specs.Rules.{Decides, Matches}
 use Rattle.al_rule.proofs.Operators.{out-Select, out-Assign, out-Project, out-Group, out-Order, out-Aggregate, out-Result, out-Join, out-LeftJoin}
 use Rattle.al_rules_prune.specs.Prunes as rule
 use Rattle.al_rules_prune.specs.Prunes.{wide, IsWide, CutsInput, narrowed, read_by, read_by_aggregates, used_by, joined, all_among, HaveSame, bindings, assigned_over}

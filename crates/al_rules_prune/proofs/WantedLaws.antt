@@ -1,5 +1,5 @@
 -- Which variables are wanted of a plan, operator by operator.
-use Rattle.std.proofs.Common.{◌≡◌, ◌<◌, ℕ, zero, suc, length, get_or, arith, Bool, true, false, not, ◌&&◌, List, [], ◌∷◌, ◌++◌, map, flat_map, refl, ap, sym, subst, ◌∙◌}
+use Rattle.std.proofs.Common.{◌≡◌, ◌<◌, ℕ, zero, suc, length, get_or, arith, Bool, true, false, not, ◌&&◌, List, [], ◌∷◌, ◌++◌, map, flat_map, refl, ap, sym, ◌∙◌}
 use Rattle.std.specs.Prelude.{◌||◌, nat_eq}
 use Rattle.std.specs.Cmp.Lexicographic.{pointwise, same_text}
 use Rattle.std.specs.List.{AllByRecursion, list_all, list_any}
@@ -7,15 +7,12 @@ use Rattle.std.proofs.lemmas.List.Folds.{list_all-append}
 use Rattle.al_plan.specs.declared.expr.Var.{Var}
 use Rattle.al_plan.specs.declared.expr.Expr.{Expr}
 use Rattle.al_plan.specs.declared.plan.AggCall.{AggCall}
-use Rattle.al_plan.specs.declared.plan.AggCall.TheVariants as C
 use Rattle.al_plan.specs.declared.plan.Generator.{Generator}
-use Rattle.al_plan.specs.declared.plan.Generator.TheVariants as G
 use Rattle.al_plan.specs.declared.plan.OrderKey.{OrderKey}
-use Rattle.al_plan.specs.declared.plan.Plan.{Plan, map-Plan, roll-Plan}
+use Rattle.al_plan.specs.declared.plan.Plan.{Plan}
 use Rattle.al_plan.specs.declared.plan.Plan.TheVariants as P
-use Rattle.al_plan.specs.declared.plan.Plan.TheOpen as L
 use Rattle.al_plan.specs.Eval.{Bytes}
-use Rattle.al_plan.specs.Names.{names, agg_exprs, item_exprs}
+use Rattle.al_plan.specs.Names.{names, agg_exprs}
 use Rattle.al_plan.specs.Uses.{named}
 use Rattle.al_plan.specs.Allows.{live, is_among}
 use Rattle.al_plan.proofs.Bools.{no, by_cases}
@@ -24,9 +21,7 @@ use Rattle.al_plan.proofs.Within.{is_among-append}
 use Rattle.al_plan.proofs.PlanLaws.{live-Scan, live-Empty, live-Nested, live-Assign, live-Select, live-Project, live-Unnest, live-Subplan, live-Join, live-LeftJoin, live-Group, live-Distinct, live-Union, live-Aggregate, live-Order, live-Limit, live-Check, live-Result}
 use Rattle.al_rule.specs.Rules.{Decides}
 use Rattle.al_rule.specs.Reads.{ReadsNone}
-use Rattle.al_rules_prune.specs.Reading.{reads, reads_step, has_distinct, distinct_step}
 use Rattle.al_rules_prune.specs.Prunes.{all_among, read_by, read_by_aggregates}
-use Rattle.al_rules_prune.specs.Forget.{reads-roll, distinct-roll}
 
 and_one : (b : Bool) → (b && true) ≡ b
 and_one true = refl

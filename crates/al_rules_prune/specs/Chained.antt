@@ -1,11 +1,8 @@
 -- The rules of pruning that rewrite chains of projects, assigns and selects.
-use Rattle.std.proofs.Common.{◌≡◌, ◌≤◌, ◌+◌, ℕ, suc, Bool, true, false, not, cond, ◌&&◌, List, [], ◌∷◌, ◌++◌, map, filter, flat_map, length, length-append, refl, ap, sym, subst, ◌∙◌, Option, None, arith}
+use Rattle.std.proofs.Common.{◌≡◌, Bool, true, false, cond, ◌&&◌, List, [], ◌∷◌, ◌++◌, map, filter, flat_map, length-append, refl, ap, sym, subst, ◌∙◌, arith}
 use Rattle.std.specs.Prelude.{◌||◌, nat_eq, if◌then◌else◌}
 use Rattle.std.specs.Cmp.Lexicographic.{pointwise, same_text}
-use Rattle.std.specs.List.{AllByRecursion}
-use Rattle.std.specs.List.Sorted.{IsPermutation}
 use Rattle.std.proofs.lemmas.List.{length-map}
-use Rattle.al_value.specs.declared.value.Value.{Value}
 use Rattle.al_value.specs.declared.value.Value.TheVariants as V
 use Rattle.al_plan.specs.declared.expr.Var.{Var}
 use Rattle.al_plan.specs.declared.expr.Expr.{Expr}
@@ -13,21 +10,20 @@ use Rattle.al_plan.specs.declared.plan.Plan.{Plan}
 use Rattle.al_plan.specs.declared.plan.Plan.TheVariants as P
 use Rattle.al_plan.specs.Eval.{Bytes, Env, bind, eval, holds}
 use Rattle.al_plan.specs.Names.{names}
-use Rattle.al_plan.specs.Uses.{named}
 use Rattle.al_plan.specs.Allows.{live, is_among, cut, assigned}
-use Rattle.al_plan.specs.Refines.{makes, Fit, NoTwice, AreLive, AreAmong, AreOver, IsOver, AtMost64, IsWithin, IsNoMore, Replaces, result_of}
+use Rattle.al_plan.specs.Refines.{makes, Fit, NoTwice, AreLive, AreAmong, AreOver, AtMost64, IsNoMore, Replaces}
 use Rattle.al_plan.proofs.Bools.{no, by_cases}
-use Rattle.al_plan.proofs.Makes.{among_of, at_head, twice_fewer, twice_left, twice_right, no_more-refl, no_more-append, no_more-same}
+use Rattle.al_plan.proofs.Makes.{among_of, twice_fewer, twice_left, twice_right, no_more-refl, no_more-append, no_more-same}
 use Rattle.al_plan.proofs.Within.{is_among-append, not_left as left_none}
 use Rattle.al_plan.proofs.RowLaws.{map-filter}
 use Rattle.al_plan.proofs.PlanLaws.{live-Project, live-Select, live-Assign, makes-Project, makes-Select, makes-Assign, result-Project, result-Select, result-Assign}
-use Rattle.al_rule.specs.Chains.{Link, projecting, selecting, assigning, through, row_of}
+use Rattle.al_rule.specs.Chains.{projecting, selecting, assigning, row_of}
 use Rattle.al_rule.proofs.Alike.{same_lists}
 use Rattle.al_rule.proofs.Chains.{chains_refine}
 use Rattle.al_rule.proofs.FitLaws.{out_Project, in_Project, out_Select, in_Select, out_Assign, in_Assign}
 use Rattle.al_rule.proofs.RuleFit.{holds-cut}
 use Rattle.al_rules_prune.specs.Prunes.{kept, narrowed, read_by, bindings, assigned_over}
-use Rattle.al_rules_prune.specs.Kept.{IsIn, among_filter, no_twice_filter, length_filter, are_live, kept_live, are_kept, fit_narrowed, in_left, in_right, among_append, reads_kept, own_names}
+use Rattle.al_rules_prune.specs.Kept.{IsIn, among_filter, no_twice_filter, length_filter, are_live, are_kept, fit_narrowed, in_left, in_right, among_append, reads_kept}
 
 -- a row cut twice is cut once
 pub cut_cut : (vars more : List Var) (r : Env) → IsIn vars more → cut vars (cut more r) ≡ cut vars r

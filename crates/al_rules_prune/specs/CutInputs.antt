@@ -1,5 +1,5 @@
 -- Results, aggregates and orders over an input that is cut to what they use.
-use Rattle.std.proofs.Common.{◌≡◌, ℕ, Bool, true, false, List, [], ◌∷◌, ◌++◌, map, flat_map, refl, ap, sym, subst, ◌∙◌, Option, None}
+use Rattle.std.proofs.Common.{◌≡◌, List, [], ◌∷◌, ◌++◌, map, flat_map, refl, ap, sym, subst, ◌∙◌}
 use Rattle.std.specs.List.{AllByRecursion}
 use Rattle.std.specs.List.Sorted.{IsPermutation, IsSorted}
 use Rattle.al_plan.specs.declared.expr.Var.{Var}
@@ -10,9 +10,8 @@ use Rattle.al_plan.specs.declared.plan.Plan.{Plan}
 use Rattle.al_plan.specs.declared.plan.Plan.TheVariants as P
 use Rattle.al_plan.specs.Eval.{Bytes, Env, bind}
 use Rattle.al_plan.specs.Names.{names, agg_exprs}
-use Rattle.al_plan.specs.Uses.{named}
-use Rattle.al_plan.specs.Allows.{Sets, Allows, live, is_among, cut, agg_row, keys_cmp}
-use Rattle.al_plan.specs.Refines.{Fit, Fills, scans, NoTwice, IsOver, AreOver, AreAmong, AreLive, IsWithin, Replaces, result_of}
+use Rattle.al_plan.specs.Allows.{live, cut, agg_row, keys_cmp}
+use Rattle.al_plan.specs.Refines.{Fit, NoTwice, AreOver, AreAmong, AreLive, Replaces}
 use Rattle.al_plan.proofs.Makes.{among_of}
 use Rattle.al_plan.proofs.Moves.{IsPermutation-lift}
 use Rattle.al_plan.proofs.PlanLaws.{allows_Result, from_Result, allows_Aggregate, from_Aggregate, allows_Order, from_Order, allows_Project, from_Project, live-Result, live-Aggregate, live-Order, live-Project, result-Project, result-Order}
@@ -21,7 +20,7 @@ use Rattle.al_rules_prune.specs.Prunes.{kept, narrowed, read_by, read_by_aggrega
 use Rattle.al_rules_prune.specs.Kept.{IsIn, are_live, are_kept, fit_narrowed, in_left, in_right, reads_kept}
 use Rattle.al_rules_prune.specs.RowMaps.{Keeps, keeps_cut, aggs-kept, sorted-kept}
 use Rattle.al_rules_prune.specs.Chained.{cut_cut}
-use Rattle.al_rules_prune.specs.Kin.{Kin, kin_replaces, kin_narrowed, kin-Result, kin-Aggregate, kin-Order, kin-Project}
+use Rattle.al_rules_prune.specs.Kin.{kin_replaces, kin_narrowed, kin-Result, kin-Aggregate, kin-Order, kin-Project}
 
 pub cuts_cut : (vars more : List Var) (rows : List Env) → IsIn vars more → map (cut vars) (map (cut more) rows) ≡ map (cut vars) rows
 cuts_cut vars more [] h = refl

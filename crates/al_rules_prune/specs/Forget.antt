@@ -1,5 +1,5 @@
 -- A nested plan doesn't see variables that it doesn't name.
-use Rattle.std.proofs.Common.{◌≡◌, ◌⊎◌, ℕ, suc, Bool, true, false, cond, List, [], ◌∷◌, ◌++◌, map, filter, flat_map, take, drop, length, refl, ap, sym, subst, ◌∙◌}
+use Rattle.std.proofs.Common.{◌≡◌, ℕ, Bool, true, false, List, [], ◌∷◌, ◌++◌, map, filter, flat_map, take, drop, refl, ap, sym, subst, ◌∙◌}
 use Rattle.std.specs.Prelude.{if◌then◌else◌}
 use Rattle.std.specs.List.{AllByRecursion}
 use Rattle.std.specs.List.Sorted.{IsPermutation, IsSorted}
@@ -8,7 +8,6 @@ use Rattle.al_value.specs.declared.value.Value.{Value}
 use Rattle.al_value.specs.declared.value.Value.TheVariants as V
 use Rattle.al_plan.specs.declared.expr.Var.{Var}
 use Rattle.al_plan.specs.declared.expr.Expr.{Expr}
-use Rattle.al_plan.specs.declared.plan.OrderKey.{OrderKey}
 use Rattle.al_plan.specs.declared.plan.AggCall.{AggCall}
 use Rattle.al_plan.specs.declared.plan.Generator.{Generator}
 use Rattle.al_plan.specs.declared.plan.Plan.{Plan, map-Plan, roll-Plan, fold-roll-Plan, ind-Plan}
@@ -16,7 +15,7 @@ use Rattle.al_plan.specs.declared.plan.Plan.TheOpen as L
 use Rattle.al_plan.specs.Eval.{Bytes, Env, bind, eval, holds}
 use Rattle.al_plan.specs.Names.{names, agg_exprs, item_exprs}
 use Rattle.al_plan.specs.Calls.{items}
-use Rattle.al_plan.specs.Allows.{Sets, Allows, live, is_among, cut, beside, assigned, expanded, with_new, keys_cmp, agg_row, IsOrderOf, ordered}
+use Rattle.al_plan.specs.Allows.{Sets, Allows, is_among, cut, assigned, expanded, with_new, keys_cmp, agg_row, IsOrderOf, ordered}
 use Rattle.al_plan.specs.Refines.{FitsEach, makes, makes_step}
 use Rattle.al_plan.proofs.Bools.{no, by_cases}
 use Rattle.al_plan.proofs.PlanLaws.{Layer, EachLayer, each-roll, makes-roll}
@@ -25,7 +24,7 @@ use Rattle.al_plan.proofs.Moves.{IsPermutation-lift}
 use Rattle.al_plan.proofs.Within.{not_left, not_right, within-bind}
 use Rattle.al_plan.proofs.Makes.{Disjoint}
 use Rattle.al_rules_prune.specs.Reading.{reads, reads_step, has_distinct, distinct_step}
-use Rattle.al_rules_prune.specs.RowMaps.{Keeps, keeps_parts, aggs-kept, made-kept, items-kept, holds-kept, filter-kept, sorted-kept}
+use Rattle.al_rules_prune.specs.RowMaps.{Keeps, aggs-kept, made-kept, items-kept, holds-kept, filter-kept, sorted-kept}
 
 -- NULL at these variables
 abbrev pub forget : List Var → Env → Env

@@ -1,19 +1,17 @@
 -- Groups over an input that is cut to their keys and to what their nested plan uses.
-use Rattle.std.proofs.Common.{◌≡◌, ◌≢◌, ◌≤◌, ℕ, Bool, true, false, not, ◌&&◌, List, [], ◌∷◌, ◌++◌, map, filter, flat_map, refl, ap, sym, subst, ◌∙◌, Option, None}
-use Rattle.std.specs.Prelude.{if◌then◌else◌, ◌||◌}
-use Rattle.std.specs.List.{All, AllByRecursion, AllZip, AllPairs}
+use Rattle.std.proofs.Common.{◌≡◌, ◌≢◌, Bool, true, false, not, ◌&&◌, List, [], ◌∷◌, ◌++◌, map, filter, flat_map, refl, ap, sym, subst, ◌∙◌}
+use Rattle.std.specs.Prelude.{if◌then◌else◌}
+use Rattle.std.specs.List.{All, AllByRecursion, AllZip}
 use Rattle.std.specs.List.Sorted.{IsPermutation}
 use Rattle.std.proofs.lemmas.List.Elements.{All-from_recursion, recursion_from_All}
-use Rattle.std.proofs.lemmas.List.Sorted.{All-permutation}
-use Rattle.al_value.specs.declared.value.Value.{Value}
 use Rattle.al_value.specs.declared.value.Value.TheVariants as V
 use Rattle.al_plan.specs.declared.expr.Var.{Var}
 use Rattle.al_plan.specs.declared.plan.Plan.{Plan}
 use Rattle.al_plan.specs.declared.plan.Plan.TheVariants as P
 use Rattle.al_plan.specs.Eval.{Bytes, Env}
 use Rattle.al_plan.specs.Uses.{named}
-use Rattle.al_plan.specs.Allows.{Sets, Allows, Gives, Group, IsGrouping, live, is_among, cut, rows_in, key_of, new_of, with_new}
-use Rattle.al_plan.specs.Refines.{Fit, NoTwice, AreLive, AreAmong, AtMost64, IsWithin, Replaces, FitsEach, makes, result_of}
+use Rattle.al_plan.specs.Allows.{Allows, Gives, Group, IsGrouping, live, is_among, cut, rows_in, key_of, new_of, with_new}
+use Rattle.al_plan.specs.Refines.{Fit, NoTwice, AreLive, AtMost64, IsWithin, Replaces, FitsEach, makes}
 use Rattle.al_plan.proofs.Bools.{no, by_cases}
 use Rattle.al_plan.proofs.Lives.{cross}
 use Rattle.al_plan.proofs.Makes.{Disjoint, among_of, at_head}
@@ -24,11 +22,11 @@ use Rattle.al_rule.proofs.FitLaws.{out_Group, in_Group}
 use Rattle.al_rule.proofs.Joins.{rows_within}
 use Rattle.al_rules_prune.specs.Reading.{reads, has_distinct}
 use Rattle.al_rules_prune.specs.Prunes.{kept, narrowed, all_among, wide, IsWide, used_by}
-use Rattle.al_rules_prune.specs.Kept.{IsIn, among_filter, among_kept, are_live, are_kept, kept_live, fit_narrowed, in_left, in_right}
+use Rattle.al_rules_prune.specs.Kept.{IsIn, among_filter, among_kept, are_live, are_kept, fit_narrowed, in_left, in_right}
 use Rattle.al_rules_prune.specs.RowMaps.{Keeps, key_of-kept}
 use Rattle.al_rules_prune.specs.Kin.{kin_replaces, kin_narrowed, kin-Group}
 use Rattle.al_rules_prune.specs.Forget.{forget, Avoids, keeps_forget, forget_within, remembers}
-use Rattle.al_rules_prune.specs.Nested.{PassAll, suits, Aggregates, aggregates}
+use Rattle.al_rules_prune.specs.Nested.{PassAll, suits, aggregates}
 
 -- ---- variables that are dropped
 

@@ -1,5 +1,5 @@
 -- Joins over an input that is cut to what the project above and the condition use.
-use Rattle.std.proofs.Common.{◌≡◌, ◌⊎◌, inl, inr, ◌≤◌, ◌+◌, ℕ, Bool, true, false, List, [], ◌∷◌, ◌++◌, map, filter, flat_map, length, length-append, refl, ap, sym, subst, ◌∙◌, Option, None, arith}
+use Rattle.std.proofs.Common.{◌≡◌, inl, inr, Bool, true, false, List, [], ◌∷◌, ◌++◌, map, filter, length-append, refl, ap, sym, subst, ◌∙◌, arith}
 use Rattle.std.proofs.lemmas.List.{map-append, map-id}
 use Rattle.std.specs.Prelude.{if◌then◌else◌, ◌||◌}
 use Rattle.std.specs.List.{AllByRecursion}
@@ -13,17 +13,17 @@ use Rattle.al_plan.specs.Eval.{Bytes, Env, holds}
 use Rattle.al_plan.specs.Names.{names}
 use Rattle.al_plan.specs.Uses.{named}
 use Rattle.al_plan.specs.Allows.{Sets, Allows, live, is_among, cut, beside, nulls, matches, or_alone, pairs, left_pairs}
-use Rattle.al_plan.specs.Refines.{Fit, NoTwice, IsOver, AreAmong, AreLive, AtMost64, IsWithin, Replaces, makes, result_of}
+use Rattle.al_plan.specs.Refines.{Fit, NoTwice, IsOver, AreAmong, AreLive, AtMost64, IsWithin, Replaces, makes}
 use Rattle.al_plan.proofs.Bools.{no, by_cases}
 use Rattle.al_plan.proofs.Lives.{live_apart}
 use Rattle.al_plan.proofs.Makes.{among_of, at_head, Disjoint}
 use Rattle.al_plan.proofs.Moves.{IsPermutation-lift}
-use Rattle.al_plan.proofs.Within.{is_among-append, not_left, not_right}
-use Rattle.al_plan.proofs.PlanLaws.{allows_Join, from_Join, allows_LeftJoin, from_LeftJoin, allows_Project, from_Project, live-Join, live-LeftJoin, live-Project, makes-Project, result-Project, result-Join, result-LeftJoin}
+use Rattle.al_plan.proofs.Within.{is_among-append}
+use Rattle.al_plan.proofs.PlanLaws.{allows_Join, from_Join, allows_LeftJoin, from_LeftJoin, allows_Project, from_Project, live-Join, live-LeftJoin, live-Project, result-Project, result-Join, result-LeftJoin}
 use Rattle.al_rule.proofs.FitLaws.{JoinFits, out_Join, in_Join, out_LeftJoin, in_LeftJoin, out_Project, in_Project}
 use Rattle.al_rule.proofs.Joins.{all_pairs, rows_within}
 use Rattle.al_rule.proofs.RuleFit.{holds-cut}
-use Rattle.al_rules_prune.specs.Prunes.{kept, narrowed, read_by, joined, wide, IsWide, CutsInput}
+use Rattle.al_rules_prune.specs.Prunes.{kept, narrowed, read_by, joined, CutsInput}
 use Rattle.al_rules_prune.specs.Kept.{IsIn, among_append, are_live, are_kept, kept_live, fit_narrowed, in_left, in_right, length_filter}
 use Rattle.al_rules_prune.specs.RowMaps.{filter-kept}
 use Rattle.al_rules_prune.specs.CutInputs.{cuts_cut}

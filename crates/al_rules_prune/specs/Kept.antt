@@ -1,22 +1,19 @@
 -- The variables that are kept of a plan, and the plan cut to them.
-use Rattle.std.proofs.Common.{◌≡◌, ◌≤◌, ℕ, suc, Bool, true, false, cond, ◌&&◌, List, [], ◌∷◌, ◌++◌, map, filter, length, refl, ap, sym, subst, ◌∙◌, Option, None, arith}
-use Rattle.std.specs.Prelude.{◌||◌, nat_eq, if◌then◌else◌}
+use Rattle.std.proofs.Common.{◌≡◌, ◌≤◌, suc, Bool, true, false, cond, ◌&&◌, List, [], ◌∷◌, ◌++◌, map, filter, length, refl, ap, sym, subst, ◌∙◌, None, arith}
+use Rattle.std.specs.Prelude.{◌||◌, nat_eq}
 use Rattle.std.specs.Cmp.Lexicographic.{pointwise, same_text}
-use Rattle.std.specs.List.{AllByRecursion}
-use Rattle.al_value.specs.declared.value.Value.TheVariants as V
 use Rattle.al_plan.specs.declared.expr.Var.{Var}
 use Rattle.al_plan.specs.declared.plan.Plan.{Plan, map-Plan, roll-Plan, ind-Plan}
-use Rattle.al_plan.specs.declared.plan.Plan.TheVariants as P
 use Rattle.al_plan.specs.declared.plan.Plan.TheOpen as L
-use Rattle.al_plan.specs.Eval.{Bytes, Env}
+use Rattle.al_plan.specs.Eval.{Bytes}
 use Rattle.al_plan.specs.Uses.{named}
-use Rattle.al_plan.specs.Allows.{live, live_step, is_among, cut}
-use Rattle.al_plan.specs.Refines.{Fit, FitsEach, Narrow, NoTwice, AreLive, AreAmong, AtMost64, IsWithin, result_of}
+use Rattle.al_plan.specs.Allows.{live, live_step, is_among}
+use Rattle.al_plan.specs.Refines.{Fit, FitsEach, Narrow, NoTwice, AreLive, AreAmong, AtMost64, result_of}
 use Rattle.al_plan.proofs.Bools.{no, by_cases}
-use Rattle.al_plan.proofs.Makes.{text_itself, at_head, among_of}
+use Rattle.al_plan.proofs.Makes.{at_head}
 use Rattle.al_plan.proofs.Within.{is_among-append}
 use Rattle.al_plan.proofs.Lives.{live_once}
-use Rattle.al_plan.proofs.PlanLaws.{EachLayer, each-roll, NarrowLayer, narrow-roll, live-roll, live-Project, result-Project}
+use Rattle.al_plan.proofs.PlanLaws.{EachLayer, each-roll, NarrowLayer, narrow-roll, live-roll}
 use Rattle.al_rule.proofs.FitLaws.{in_Project}
 use Rattle.al_rules_prune.specs.Prunes.{kept, narrowed}
 

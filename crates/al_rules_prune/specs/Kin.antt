@@ -1,5 +1,5 @@
 -- Plans that are alike but for their live variables and the lists that they allow.
-use Rattle.std.proofs.Common.{◌≡◌, ◌⊎◌, Bool, List, [], ◌∷◌, ◌++◌, map, refl, ap, sym, subst, ◌∙◌, Option, None}
+use Rattle.std.proofs.Common.{◌≡◌, ◌⊎◌, Bool, List, [], ◌++◌, map, refl, ap, sym, ◌∙◌, None}
 use Rattle.al_plan.specs.declared.expr.Var.{Var}
 use Rattle.al_plan.specs.declared.expr.Expr.{Expr}
 use Rattle.al_plan.specs.declared.plan.AggCall.{AggCall}
@@ -10,7 +10,7 @@ use Rattle.al_plan.specs.Eval.{Bytes, Env}
 use Rattle.al_plan.specs.Allows.{Sets, Allows, Faults, live, ordered}
 use Rattle.al_plan.specs.Refines.{scans, makes, Fit, Fills, Replaces, result_of}
 use Rattle.al_plan.proofs.PlanLaws.{ordered-Result, scans-Result, makes-Result, result-Result, faults-Result, ordered-Aggregate, scans-Aggregate, makes-Aggregate, result-Aggregate, faults-Aggregate, ordered-Project, scans-Project, makes-Project, result-Project, faults-Project, ordered-Order, scans-Order, makes-Order, result-Order, faults-Order, ordered-Group, scans-Group, makes-Group, result-Group, faults-Group, ordered-Join, scans-Join, makes-Join, result-Join, faults-Join, ordered-LeftJoin, scans-LeftJoin, makes-LeftJoin, result-LeftJoin, faults-LeftJoin}
-use Rattle.al_rule.proofs.Alike.{Alike, alike_replaces}
+use Rattle.al_rule.proofs.Alike.{alike_replaces}
 use Rattle.al_rules_prune.specs.Prunes.{kept, narrowed}
 
 pub record Kin (q p : Plan) : Type 1 where

@@ -1,20 +1,18 @@
 -- Nested plans over fewer outer variables.
-use Rattle.std.proofs.Common.{◌≡◌, ◌⊎◌, ℕ, Bool, true, false, List, [], ◌∷◌, ◌++◌, map, flat_map, refl, ap, sym, subst, ◌∙◌, Option, None}
-use Rattle.std.specs.Prelude.{◌||◌}
+use Rattle.std.proofs.Common.{◌≡◌, Bool, true, false, List, [], ◌∷◌, ◌++◌, map, flat_map, ap, sym, subst, ◌∙◌}
 use Rattle.std.specs.List.{AllByRecursion}
 use Rattle.al_plan.specs.declared.expr.Var.{Var}
 use Rattle.al_plan.specs.declared.expr.Expr.{Expr}
 use Rattle.al_plan.specs.declared.plan.OrderKey.{OrderKey}
 use Rattle.al_plan.specs.declared.plan.AggCall.{AggCall}
 use Rattle.al_plan.specs.declared.plan.Plan.{Plan, map-Plan, roll-Plan, out-Plan, ind-Plan}
-use Rattle.al_plan.specs.declared.plan.Plan.TheVariants as P
 use Rattle.al_plan.specs.declared.plan.Plan.TheOpen as L
 use Rattle.al_plan.specs.Eval.{Bytes, Env}
 use Rattle.al_plan.specs.Names.{names, agg_exprs, item_exprs}
 use Rattle.al_plan.specs.Allows.{Sets, Allows, live, live_step, is_among}
-use Rattle.al_plan.specs.Refines.{FitsEach, AreAmong, AreLive, AreOver, IsOver, IsWithin, makes, makes_step, is_aggregate, aggregate_step}
-use Rattle.al_plan.proofs.Bools.{no, by_cases}
-use Rattle.al_plan.proofs.PlanLaws.{Layer, EachLayer, each-roll, live-roll, makes-roll, aggregate-roll}
+use Rattle.al_plan.specs.Refines.{FitsEach, AreAmong, AreLive, AreOver, IsOver, IsWithin, makes, is_aggregate, aggregate_step}
+use Rattle.al_plan.proofs.Bools.{no}
+use Rattle.al_plan.proofs.PlanLaws.{EachLayer, each-roll, live-roll, makes-roll, aggregate-roll}
 use Rattle.al_plan.proofs.Orders.{unroll}
 use Rattle.al_plan.proofs.Within.{not_right, within-bind}
 use Rattle.al_rule.proofs.Operators.{rolls-out}

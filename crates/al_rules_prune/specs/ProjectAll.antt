@@ -1,8 +1,7 @@
 -- A project of all live variables.
-use Rattle.std.proofs.Common.{◌≡◌, ◌≢◌, ℕ, Bool, true, false, List, [], ◌∷◌, ◌++◌, map, refl, ap, sym, subst, ◌∙◌, append-nil, None}
+use Rattle.std.proofs.Common.{◌≡◌, Bool, true, false, List, [], ◌∷◌, ◌++◌, refl, ap, sym, subst, ◌∙◌}
 use Rattle.std.specs.Prelude.{◌||◌, nat_eq, if◌then◌else◌}
 use Rattle.std.specs.Cmp.Lexicographic.{pointwise, same_text}
-use Rattle.std.specs.List.{All, AllByRecursion, Contains}
 use Rattle.std.specs.List.Sorted.{IsPermutation}
 use Rattle.std.proofs.lemmas.List.Sorted.{IsPermutation-refl, IsPermutation-trans, IsPermutation-sym, IsPermutation-cons, IsPermutation-middle}
 use Rattle.al_value.specs.declared.value.Value.TheVariants as V
@@ -11,11 +10,11 @@ use Rattle.al_plan.specs.declared.plan.Plan.{Plan}
 use Rattle.al_plan.specs.declared.plan.Plan.TheVariants as P
 use Rattle.al_plan.specs.Eval.{Bytes, Env}
 use Rattle.al_plan.specs.Allows.{live, is_among, cut}
-use Rattle.al_plan.specs.Refines.{makes, Fit, Replaces, NoTwice, AreLive, IsWithin}
+use Rattle.al_plan.specs.Refines.{Fit, Replaces, NoTwice, IsWithin}
 use Rattle.al_plan.proofs.Bools.{no, by_cases}
 use Rattle.al_plan.proofs.PlanLaws.{live-Project, makes-Project}
 use Rattle.al_plan.proofs.Within.{is_among-append}
-use Rattle.al_plan.proofs.Makes.{apart, twice_left, twice_right, twice_both, not_append, no_more-same, at_head, among_of}
+use Rattle.al_plan.proofs.Makes.{apart, twice_left, twice_right, twice_both, not_append, no_more-same, at_head}
 use Rattle.al_plan.proofs.Lives.{live_once}
 use Rattle.al_rule.specs.Chains.{projecting}
 use Rattle.al_rule.proofs.Chains.{chains_refine}

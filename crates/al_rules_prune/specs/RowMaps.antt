@@ -1,11 +1,9 @@
 -- Maps of rows that keep the values of some variables.
-use Rattle.std.proofs.Common.{◌≡◌, ℕ, zero, suc, ◌≤◌, ◌<◌, Bool, true, false, cond, List, [], ◌∷◌, ◌++◌, map, filter, flat_map, length, refl, ap, sym, subst, ◌∙◌, arith, add-one}
+use Rattle.std.proofs.Common.{◌≡◌, zero, suc, Bool, true, false, cond, List, [], ◌∷◌, ◌++◌, map, filter, flat_map, refl, ap, subst, ◌∙◌, arith, add-one}
 use Rattle.std.specs.Prelude.{if◌then◌else◌}
 use Rattle.std.specs.List.{AllByRecursion}
 use Rattle.std.specs.List.Sorted.{IsSorted, IsSortedBy}
 use Rattle.std.specs.Ordering.{is_lt, ordering_then}
-use Rattle.std.specs.declared.cmp.Ordering.{Ordering}
-use Rattle.al_value.specs.declared.value.Value.{Value}
 use Rattle.al_value.specs.declared.value.Value.TheVariants as V
 use Rattle.al_value.specs.Value.{value_cmp}
 use Rattle.al_func.specs.Func.{is_true}
@@ -22,7 +20,7 @@ use Rattle.al_plan.specs.declared.plan.Generator.TheVariants as G
 use Rattle.al_plan.specs.Eval.{Bytes, Env, eval, holds}
 use Rattle.al_plan.specs.Names.{names, agg_exprs, item_exprs}
 use Rattle.al_plan.specs.Calls.{agg_call, items}
-use Rattle.al_plan.specs.Allows.{is_among, cut, keys_cmp, directed, key_of}
+use Rattle.al_plan.specs.Allows.{cut, keys_cmp, directed, key_of}
 use Rattle.al_plan.specs.Refines.{AreAmong}
 use Rattle.al_rule.proofs.ReadLaws.{eval-names}
 use Rattle.al_rule.proofs.SelectOrder.{Up, sorted_from_up}

@@ -1,9 +1,7 @@
 -- The rules of pruning are sound: their right sides may stand in the place of their left sides.
-use Rattle.std.proofs.Common.{◌≡◌, Bool, true, false, List, ◌++◌, map, sym, subst}
+use Rattle.std.proofs.Common.{◌≡◌, ◌++◌, map, sym, subst}
 use Rattle.al_plan.specs.declared.plan.Plan.{Plan}
 use Rattle.al_plan.specs.declared.plan.Plan.TheVariants as P
-use Rattle.al_plan.specs.declared.expr.Var.{Var}
-use Rattle.al_plan.specs.declared.plan.OrderKey.{OrderKey}
 use Rattle.al_plan.specs.Refines.{Fit, Replaces}
 use Rattle.al_rule.proofs.EntryLaws.{IsSound}
 use Rattle.al_rules_prune.specs.Prunes as rule

@@ -1,4 +1,4 @@
-use Rattle.std.proofs.Common.{rules, ◌≡◌, ◌++◌, map, false, sym, ◌∙◌}
+use Rattle.std.proofs.Common.{rules, ◌≡◌, ◌++◌, map, false}
 use Rattle.al_rules_prune.specs.Prunes.{wide}
 use Rattle.al_rules_prune.proofs.MatchLaws.{none_order, other_order, narrow_order}
 use Rattle.al_rules_prune.proofs.cuts.wide_order.Goals as goal

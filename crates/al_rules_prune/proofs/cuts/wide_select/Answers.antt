@@ -1,4 +1,4 @@
-use Rattle.std.proofs.Common.{rules, ◌≡◌, ◌++◌, false, sym, ◌∙◌}
+use Rattle.std.proofs.Common.{rules, ◌≡◌, ◌++◌, false}
 use Rattle.al_rules_prune.specs.Prunes.{wide, read_by}
 use Rattle.al_rules_prune.proofs.MatchLaws.{other_select, narrow_select}
 use Rattle.al_rules_prune.proofs.cuts.wide_select.Goals as goal

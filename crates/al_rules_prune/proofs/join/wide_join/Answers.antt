@@ -1,4 +1,4 @@
-use Rattle.std.proofs.Common.{rules, ◌≡◌, ◌++◌, map, false, sym, ◌∙◌}
+use Rattle.std.proofs.Common.{rules}
 use Rattle.al_rules_prune.proofs.MatchLaws.{none_join, other_join, narrow_join}
 use Rattle.al_rules_prune.proofs.join.wide_join.Goals as goal
 

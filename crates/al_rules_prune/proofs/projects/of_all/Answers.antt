@@ -1,5 +1,4 @@
-use Rattle.std.proofs.Common.{rules, ◌≡◌, ◌++◌, true, false, sym, map, ◌∙◌}
-use Rattle.al_rules_prune.specs.Prunes.{all_among, wide, read_by}
+use Rattle.std.proofs.Common.{rules}
 use Rattle.al_rules_prune.proofs.MatchLaws.{none_all, others_all}
 use Rattle.al_rules_prune.proofs.projects.of_all.Goals as goal
 

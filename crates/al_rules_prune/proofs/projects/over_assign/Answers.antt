@@ -1,5 +1,5 @@
-use Rattle.std.proofs.Common.{rules, ◌≡◌, ◌++◌, true, false, sym, map, ◌∙◌}
-use Rattle.al_rules_prune.specs.Prunes.{all_among, wide, read_by}
+use Rattle.std.proofs.Common.{rules, ◌≡◌, true, map}
+use Rattle.al_rules_prune.specs.Prunes.{all_among}
 use Rattle.al_rules_prune.proofs.MatchLaws.{none_assign, other_assign, all_assign}
 use Rattle.al_rules_prune.proofs.projects.over_assign.Goals as goal
 

@@ -1,5 +1,4 @@
-use Rattle.std.proofs.Common.{rules, ◌≡◌, ◌++◌, true, false, sym, map, ◌∙◌}
-use Rattle.al_rules_prune.specs.Prunes.{all_among, wide, read_by}
+use Rattle.std.proofs.Common.{rules}
 use Rattle.al_rules_prune.proofs.MatchLaws.{none_project, other_project}
 use Rattle.al_rules_prune.proofs.projects.over_project.Goals as goal
 
