@@ -1,5 +1,5 @@
 -- Sets driven one after the other.
-use Rattle.std.proofs.Common.{◌≡◌, List, [], ◌∷◌, ◌++◌, refl, ap, sym, subst, ◌∙◌, append_assoc, append-nil, arith}
+use Rattle.std.proofs.Common.{◌≡◌, List, [], ◌∷◌, ◌++◌, refl, ap, sym, subst, ◌∙◌, append_assoc, append-nil}
 use Rattle.al_plan.specs.declared.plan.Plan.{Plan}
 use Rattle.al_plan.specs.Refines.{Fit, Refines, Replaces}
 use Rattle.al_plan.proofs.Refine.{replaces-refl, replaces-trans}
@@ -7,8 +7,7 @@ use Rattle.al_rule.specs.declared.names.SetName.{SetName}
 use Rattle.al_rule.specs.declared.trace.TraceStep.{TraceStep}
 use Rattle.al_rule.specs.declared.trace.Trace.{Trace}
 use Rattle.al_rule.specs.Rules.{Rules}
-use Rattle.al_rule.specs.Driven.{Driven, Steps}
-use Rattle.al_rule.specs.Entries.{listed}
+use Rattle.al_rule.specs.Driven.{Driven}
 use Rattle.al_opt.specs.Optimised.{LegalTrace, Reaches, rules_of, set_order}
 
 -- the trace gained steps by which these sets lead from the first plan to the second
@@ -31,11 +30,6 @@ one_more sets_of s sets p mid q before between now here later = record {
   driven = (here.drove.0, later.steps, mid, refl, here.drove.2, here.stuck, later.driven);
   replaces = replaces-trans q mid p later.replaces here.replaces;
 }
-
--- a set without rules ends at once
-pub none_in : (set : SetName) (p : Plan) (t : Trace) → Fit p → Reaches (listed set []) p t t p
-unfolding Steps
-none_in set p t fit = record { drove = ([], sym (append-nil t.steps), refl); stuck = λ k few place x at m. absurd (omega arith); replaces = replaces-refl p fit }
 
 -- all sets, from a new trace and a copy of the plan
 pub record Optimised (p : Plan) (t : Trace) (q : Plan) : Type 0 where

@@ -7,12 +7,12 @@ use Rattle.al_rule.specs.declared.names.SetName.TheVariants as S
 use Rattle.al_rule.specs.declared.trace.TraceStep.{TraceStep}
 use Rattle.al_rule.specs.declared.trace.Trace.{Trace}
 use Rattle.al_rule.specs.Rules.{Rules, Stuck}
-use Rattle.al_rule.specs.Entries.{listed}
 use Rattle.al_rule.specs.Driven.{Drove, Driven}
 use Rattle.al_rules_select.specs.Sets.{split_rules, select_rules}
 use Rattle.al_rules_join.specs.JoinSet.{join_rules}
 use Rattle.al_rules_order.specs.OrderSet.{order_rules}
 use Rattle.al_rules_group.specs.GroupSet.{group_rules}
+use Rattle.al_rules_prune.specs.PruneSet.{prune_rules}
 
 -- the sets by their names
 abbrev pub rules_of : SetName → Rules
@@ -21,7 +21,7 @@ rules_of S.Select = select_rules
 rules_of S.Join = join_rules
 rules_of S.Order = order_rules
 rules_of S.Group = group_rules
-rules_of S.Prune = listed S.Prune []
+rules_of S.Prune = prune_rules
 
 -- the order in which they are driven
 abbrev pub set_order : List SetName

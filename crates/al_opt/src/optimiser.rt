@@ -12,6 +12,7 @@ use al_rule::{ApplyFault, RuleSet, Trace, drive_fixpoint, drive_once};
 use al_rules_group::GroupSet;
 use al_rules_join::JoinSet;
 use al_rules_order::OrderSet;
+use al_rules_prune::PruneSet;
 use al_rules_select::{SelectSet, SplitSet, split_laws};
 use al_value::NoMemory;
 use std::alloc::Global;
@@ -54,5 +55,6 @@ pub fn optimise(alloc: Global, p: &Plan) -> Result<(Plan, Trace), NoMemory>
     let q = exhaust(alloc, &SelectSet, q, &mut trace)?;
     let q = exhaust(alloc, &OrderSet, q, &mut trace)?;
     let q = exhaust(alloc, &GroupSet, q, &mut trace)?;
+    let q = exhaust(alloc, &PruneSet, q, &mut trace)?;
     Ok((q, trace))
 }

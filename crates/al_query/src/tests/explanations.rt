@@ -52,8 +52,8 @@ const SELECTS: [Row<'static>; 12] = [
     Row {
         listed: "$t",
         plan: "(select (eq $t \"Ex\") (project ($t) DEPT))",
-        steps: "1 select select-below-project /0\n",
-        rewritten: "(project ($t) (select (eq $t \"Ex\") DEPT))",
+        steps: "1 select select-below-project /0\n2 prune project-below-select /0\n3 prune project-all /0\n",
+        rewritten: "(select (eq $t \"Ex\") (project ($t) DEPT))",
     },
     Row {
         listed: "$c $t $u",
@@ -113,7 +113,13 @@ fn explains_selects(rt: HostRuntime) -> Result<(), Fail> {
     Ok(())
 }
 
-const JOINS: [Row<'static>; 4] = [
+const JOINS: [Row<'static>; 5] = [
+    Row {
+        listed: "$id $t",
+        plan: "(order (($id asc)) (select (eq $t \"Ex\") (leftjoin (eq $dept $c) SCAN DEPT)))",
+        steps: "1 join leftjoin-to-join /0/0\n2 join join-cond-right /0/0\n3 prune result-project /\n4 prune project-below-order /0\n5 prune project-all /0\n6 prune project-below-join /0/0\n",
+        rewritten: "(order (($id asc)) (project ($id $t) (join (eq $dept $c) (project ($id $dept) SCAN) (select (eq $t \"Ex\") DEPT))))",
+    },
     Row {
         listed: EMP_AND_DEPT,
         plan: "(order (($id asc)) (select (eq $t \"Ex\") (leftjoin (eq $dept $c) SCAN DEPT)))",
@@ -182,8 +188,8 @@ const ORDERS: [Row<'static>; 6] = [
     Row {
         listed: "$n",
         plan: "(aggregate (($n (countall))) (order (($id asc)) SCAN))",
-        steps: "1 order drop-order /0\n",
-        rewritten: "(aggregate (($n (countall))) SCAN)",
+        steps: "1 order drop-order /0\n2 prune aggregate-project-input /0\n",
+        rewritten: "(aggregate (($n (countall))) (project () SCAN))",
     },
 ];
 
@@ -237,6 +243,65 @@ const GROUPS: [Row<'static>; 6] = [
 #[test]
 fn explains_groups(rt: HostRuntime) -> Result<(), Fail> {
     for row in &GROUPS {
+        explains(&rt, row)?;
+    }
+    Ok(())
+}
+
+const PRUNES: [Row<'static>; 8] = [
+    Row {
+        listed: "$id",
+        plan: "(limit 2 3 (order (($id asc)) SCAN))",
+        steps: "1 prune result-project /\n",
+        rewritten: "(project ($id) (limit 2 3 (order (($id asc)) SCAN)))",
+    },
+    Row {
+        listed: "$id",
+        plan: "(select (eq $dept \"X\") SCAN)",
+        steps: "1 prune result-project /\n2 prune project-below-select /0\n",
+        rewritten: "(project ($id) (select (eq $dept \"X\") (project ($id $dept) SCAN)))",
+    },
+    Row {
+        listed: "$c",
+        plan: "(project ($c) (project ($c $t) DEPT))",
+        steps: "1 prune project-over-project /0\n",
+        rewritten: "(project ($c) DEPT)",
+    },
+    Row {
+        listed: "$t $c",
+        plan: "(project ($t $c) DEPT)",
+        steps: "1 prune project-all /0\n",
+        rewritten: "DEPT",
+    },
+    Row {
+        listed: "$c $t",
+        plan: "(project ($c $t) (assign (($u $c)) DEPT))",
+        steps: "1 prune assign-under-project /0\n2 prune project-all /0\n",
+        rewritten: "DEPT",
+    },
+    Row {
+        listed: "$id",
+        plan: "(project ($id) (order (($pay asc)) SCAN))",
+        steps: "1 prune project-below-order /0\n",
+        rewritten: "(project ($id) (order (($pay asc)) (project ($id $pay) SCAN)))",
+    },
+    Row {
+        listed: "$id $t",
+        plan: "(project ($id $t) (join (eq $dept $c) SCAN DEPT))",
+        steps: "1 prune project-below-join /0\n",
+        rewritten: "(project ($id $t) (join (eq $dept $c) (project ($id $dept) SCAN) DEPT))",
+    },
+    Row {
+        listed: "$d $s",
+        plan: "(group (($d $dept)) (aggregate (($s (sum $pay))) (nested)) SCAN)",
+        steps: "1 prune group-project-input /0\n",
+        rewritten: "(group (($d $dept)) (aggregate (($s (sum $pay))) (nested)) (project ($dept $pay) SCAN))",
+    },
+];
+
+#[test]
+fn explains_columns_that_nobody_reads(rt: HostRuntime) -> Result<(), Fail> {
+    for row in &PRUNES {
         explains(&rt, row)?;
     }
     Ok(())

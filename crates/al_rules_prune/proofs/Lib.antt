@@ -1,0 +1,3 @@
+pub mod WantedLaws
+pub mod MatchLaws
+pub mod ReadingLaws

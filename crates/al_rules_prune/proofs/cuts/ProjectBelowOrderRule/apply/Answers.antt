@@ -1,0 +1,14 @@
+use Rattle.std.proofs.Common.{sym, subst, IfOk, Result}
+use Rattle.al_plan.specs.declared.plan.Plan.{Plan}
+use Rattle.al_plan.specs.Refines.{Replaces}
+use Rattle.al_rule.specs.declared.rule.ApplyFault.{ApplyFault}
+use Rattle.al_rules_prune.specs.Prunes as meaning
+use Rattle.al_rules_prune.specs.Sound as sound
+use Rattle.al_rules_prune.proofs.MatchLaws.{applies, refines}
+use Rattle.al_rules_prune.proofs.cuts.ProjectBelowOrderRule.apply.Goals as goal
+
+pub returns-clause-applied : goal.returns-clause-applied
+returns-clause-applied c = λ m. subst (λ (x : Result Plan ApplyFault). IfOk x (λ q. meaning.ProjectBelowOrder c.args.p q)) (sym c.outcome.ensures) (applies meaning.ProjectBelowOrder c.args.p c.cut_order-made.result c.cut_order-made.ensures m)
+
+pub returns-clause-refines : goal.returns-clause-refines
+returns-clause-refines c = λ m fit. subst (λ (x : Result Plan ApplyFault). IfOk x (λ q. Replaces q c.args.p)) (sym c.outcome.ensures) (refines meaning.ProjectBelowOrder sound.project_below_order c.args.p c.cut_order-made.result c.cut_order-made.ensures m fit)

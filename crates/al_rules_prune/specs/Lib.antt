@@ -1,0 +1,17 @@
+pub mod Reading
+pub mod Prunes
+pub mod Kept
+pub mod RowMaps
+pub mod Chained
+pub mod ProjectAll
+pub mod Kin
+pub mod CutInputs
+pub mod JoinCuts
+pub mod Forget
+pub mod Nested
+pub mod GroupCut
+pub mod Sound
+pub mod Matching
+pub mod PruneSet
+pub mod Falls
+pub mod Shown
