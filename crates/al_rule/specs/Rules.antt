@@ -28,7 +28,7 @@ abbrev pub HandsBack : Plan → Result Plan ApplyFault → Type 0
 HandsBack p (Ok q) = Unit {0}
 HandsBack p (Err e) = e ≡ NoMemory p
 
--- no rule of the set matches at any place outside nested plans
+-- at each place that a step may change every rule of the set fails to match
 abbrev pub Stuck : Rules → Plan → Type 0
 Stuck rules p = (k : ℕ) → k < rules.count → (place : List ℕ) (x : Plan) → plan_at place p ≡ Some x → Matches (rules.rewrites k) x → ⊥
 

@@ -96,9 +96,9 @@ fn walk<S: RuleSet>(
     Ok(applied)
 }
 
-/// Walks the plan once: the places in pre-order, inputs by their number. At each place, while a
-/// rule of the set matches, the first one in the set's order is applied there. Then the walk goes
-/// on to the inputs of what stands there now. Nested plans are left alone.
+/// Walks the plan once, from the root down and from the first input to the last. Where it stands it
+/// applies the first rule that matches, again and again until none does, and only then goes down
+/// into the inputs of the operator that the rules left there. Nested plans are left alone.
 pub fn drive_once<S: RuleSet>(
     alloc: Global,
     set: &S,
