@@ -1,0 +1,11 @@
+pub mod Rest
+pub mod Members
+pub mod Connections
+pub mod StageLaws
+pub mod JobCases
+pub mod NestedLaws
+pub mod WireLaws
+pub mod SettledCases
+pub mod GroupCases
+pub mod CheckCases
+pub mod FreeLaws

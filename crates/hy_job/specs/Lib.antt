@@ -1,0 +1,11 @@
+pub mod Columns
+pub mod Nested
+pub mod Sound
+pub mod Stages
+pub mod Finding
+pub mod Runs
+pub mod Exchange
+pub mod Rest
+pub mod Settled
+pub mod Cases
+pub mod SettledCases
