@@ -1,0 +1,6 @@
+use Rattle.std.proofs.Common.{◌≡◌, map, take}
+use Rattle.al_jobgen.specs.Columns.{made_rexes}
+use Rattle.al_jobgen.proofs.columns.made_rexes.Given as goal
+
+abbrev pub invariant-loop-e : goal.invariant-loop-e
+invariant-loop-e l = l.rexes ≡ made_rexes l.vars (take l.e-index l.made)

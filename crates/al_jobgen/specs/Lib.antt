@@ -1,0 +1,6 @@
+pub mod Columns
+pub mod JobOf
+pub mod Agree
+pub mod Parts
+pub mod Shapes
+pub mod Added

@@ -1,0 +1,18 @@
+//! From a physical plan over variables to a job over columns.
+#![tactic(auto)]
+
+mod builder;
+mod columns;
+mod inputs;
+mod job;
+mod join;
+mod laws;
+mod nested;
+mod operators;
+mod vars;
+
+pub use job::job_of;
+pub use laws::column_laws;
+
+#[cfg(test)]
+mod tests;
