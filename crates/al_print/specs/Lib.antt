@@ -1,4 +1,6 @@
 pub mod Canonical
 pub mod Laws
 pub mod Traces
+pub mod Physical
+pub mod Jobs
 pub mod Explanation

@@ -17,7 +17,7 @@ use al_value::{List, NoMemory};
 use std::alloc::Global;
 
 #[tactic(auto, using(al_plan::proofs::GrammarLaws::plan_words_laws, crate::proofs::LineLaws::line_laws))]
-fn put_plan(line: &mut Line, p: &Plan) -> Result<(), NoMemory>
+pub fn put_plan(line: &mut Line, p: &Plan) -> Result<(), NoMemory>
     ensures { OnOk result (line.new ≡ after line.old (plan_words p.now)) }
 {
     match p {

@@ -2,13 +2,9 @@
 
 ghost use Rattle.std.specs.Prelude.{◌≡◌, ◌++◌, suc, codes, decimal, OnOk, IfOk};
 ghost use Rattle.std.specs.List.{flat_map};
-ghost use Rattle.al_print.specs.Canonical.{file_with};
-ghost use Rattle.al_print.specs.Explanation.{explanation};
 ghost use Rattle.al_print.specs.Traces as words;
 ghost use Rattle.al_print.specs.Traces.{after_slash, place_word, step_line, step_lines, trace_text};
 
-use crate::file::print_with;
-use al_plan::{Plan, PlanFile};
 use al_rule::{RuleName, SetName, Trace, TraceStep};
 use al_value::{List, NoMemory};
 use itoa::Buffer;
@@ -70,7 +66,7 @@ fn rule_word(rule: RuleName) -> &'static str
     }
 }
 
-fn push_number(text: &mut List<u8>, n: u64) -> Result<(), NoMemory>
+pub fn push_number(text: &mut List<u8>, n: u64) -> Result<(), NoMemory>
     ensures { OnOk result (text.new ≡ text.old ++ decimal n) }
 {
     let mut buffer = Buffer::new();
@@ -134,22 +130,5 @@ pub fn print_trace(alloc: Global, t: &Trace) -> Result<List<u8>, NoMemory>
     let mut text = List::new(alloc);
     text.extend(b"trace\n")?;
     push_steps(&mut text, t.steps.as_slice())?;
-    Ok(text)
-}
-
-/// An explanation: the trace, and behind the line `plan` the canonical text of the file with the
-/// plan that the trace leads to.
-pub fn print_explanation(
-    alloc: Global,
-    t: &Trace,
-    f: &PlanFile,
-    plan: &Plan,
-) -> Result<List<u8>, NoMemory>
-    ensures { IfOk result (λ text. text ≡ explanation t.now.steps (file_with f.now plan.now)) }
-{
-    let mut text = print_trace(alloc, t)?;
-    text.extend(b"plan\n")?;
-    let canonical = print_with(alloc, f, plan)?;
-    text.extend(canonical.as_slice())?;
     Ok(text)
 }
