@@ -39,22 +39,26 @@ some_line (Err e) was now bytes h k = k
 
 -- ---- one command, one plan, one refusal
 
--- that words have one command, and texts one reading, and that acceptance is exact
-pub record AreSingle : Type 0 where
-  pub command : (words : List Bytes) (c d : Command) → IsCommand words c → IsCommand words d → c ≡ d
+-- that texts have one reading, and that acceptance is exact
+pub record IsOneText : Type 0 where
   pub reading : (bytes : Bytes) → HasOneAnswer bytes
   pub accepting : (f : PlanFile) → IsAccepted f ↔ (accept_refusal f ≡ None)
+
+-- and that words have one command
+pub record AreSingle : Type 0 where
+  pub command : (words : List Bytes) (c d : Command) → IsCommand words c → IsCommand words d → c ≡ d
+  pub texts : IsOneText
 
 one_content : (file : Option Bytes) (a b : Bytes) → file ≡ Some a → file ≡ Some b → a ≡ b
 one_content file a b h k = cc
 
-one_plan : AreSingle → (file : Option Bytes) (f g : PlanFile) → IsPlan file f → IsPlan file g → f ≡ g
+one_plan : IsOneText → (file : Option Bytes) (f g : PlanFile) → IsPlan file f → IsPlan file g → f ≡ g
 one_plan single file f g (a, there, is, good) (b, here, also, fine) = (single.reading b).file f g (subst (λ (bytes : Bytes). Reads bytes f) (one_content file a b there here) is) also
 
 none_some : {X : Type 0} (o : Option X) (x : X) → o ≡ None → o ≡ Some x → ⊥
 none_some o x h k = cc
 
-no_plan : AreSingle → (file : Option Bytes) (r : Refused) (f : PlanFile) → IsPlanRefused file r → IsPlan file f → ⊥
+pub no_plan : IsOneText → (file : Option Bytes) (r : Refused) (f : PlanFile) → IsPlanRefused file r → IsPlan file f → ⊥
 no_plan single file r f (absent none is) (b, here, reads, good) = none_some file b none here
 no_plan single file r f (unread a there bad) (b, here, reads, good) = (single.reading a).apart f r (subst (λ (bytes : Bytes). Reads bytes f) (one_content file b a here there) reads) bad
 no_plan single file r f (unaccepted a there g is bad) (b, here, reads, good) =
@@ -64,7 +68,7 @@ no_plan single file r f (unaccepted a there g is bad) (b, here, reads, good) =
 some_same : {X : Type 0} (o : Option X) (x y : X) → o ≡ Some x → o ≡ Some y → x ≡ y
 some_same o x y h k = cc
 
-one_refusal : AreSingle → (file : Option Bytes) (r s : Refused) → IsPlanRefused file r → IsPlanRefused file s → r ≡ s
+pub one_refusal : IsOneText → (file : Option Bytes) (r s : Refused) → IsPlanRefused file r → IsPlanRefused file s → r ≡ s
 one_refusal single file r s (absent none is) (absent none2 also) = is ∙ sym also
 one_refusal single file r s (absent none is) (unread b here bad) = absurd (none_some file b none here)
 one_refusal single file r s (absent none is) (unaccepted b here g reads bad) = absurd (none_some file b none here)
@@ -179,7 +183,7 @@ not_both : (b : Bool) → b ≡ true → b ≡ false → ⊥
 not_both b h k = cc
 
 refused_and_plan : AreSingle → (fs : Files) (plan : Bytes) (r : Refused) → IsPlanRefused (fs plan) r → HasPlan fs plan → ⊥
-refused_and_plan single fs plan r bad (f, is) = no_plan single (fs plan) r f bad is
+refused_and_plan single fs plan r bad (f, is) = no_plan single.texts (fs plan) r f bad is
 
 ok_err : {X E : Type 0} (r : Result X E) (x : X) (e : E) → r ≡ Ok x → r ≡ Err e → ⊥
 ok_err r x e h k = cc
@@ -192,17 +196,17 @@ same_ok r d e h k = cc
 
 -- data can't be both good and bad
 bad_and_good : AreSingle → (fs : Files) (plan : Bytes) (d : DataRefused) (g : PlanFile) (sets : List Data) → IsBadData fs plan d → IsPlan (fs plan) g → loaded fs 0 g.datasets ≡ Ok sets → ⊥
-bad_and_good single fs plan d g sets (f, is, bad) also good = ok_err (loaded fs 0 g.datasets) sets d good (subst (λ (x : PlanFile). loaded fs 0 x.datasets ≡ Err d) (one_plan single (fs plan) f g is also) bad)
+bad_and_good single fs plan d g sets (f, is, bad) also good = ok_err (loaded fs 0 g.datasets) sets d good (subst (λ (x : PlanFile). loaded fs 0 x.datasets ≡ Err d) (one_plan single.texts (fs plan) f g is also) bad)
 
 one_bad_data : AreSingle → (fs : Files) (plan : Bytes) (d e : DataRefused) → IsBadData fs plan d → IsBadData fs plan e → d ≡ e
-one_bad_data single fs plan d e (f, is, bad) (g, also, worse) = same_err (loaded fs 0 g.datasets) d e (subst (λ (x : PlanFile). loaded fs 0 x.datasets ≡ Err d) (one_plan single (fs plan) f g is also) bad) worse
+one_bad_data single fs plan d e (f, is, bad) (g, also, worse) = same_err (loaded fs 0 g.datasets) d e (subst (λ (x : PlanFile). loaded fs 0 x.datasets ≡ Err d) (one_plan single.texts (fs plan) f g is also) bad) worse
 
 bad_and_sound : AreSingle → (fs : Files) (plan : Bytes) (d : DataRefused) → IsBadData fs plan d → IsSound fs plan → ⊥
 bad_and_sound single fs plan d bad (g, sets, also, fine, none) = bad_and_good single fs plan d g sets bad also fine
 
 faulty_and_sound : AreSingle → (fs : Files) (plan own : Bytes) → IsFaulty fs plan own → IsSound fs plan → ⊥
 faulty_and_sound single fs plan own (f, sets, is, good, fault) (g, others, also, fine, none) =
-    let same : f ≡ g = one_plan single (fs plan) f g is also in
+    let same : f ≡ g = one_plan single.texts (fs plan) f g is also in
     let read : loaded fs 0 g.datasets ≡ Ok sets = subst (λ (x : PlanFile). loaded fs 0 x.datasets ≡ Ok sets) same good in
     let rows : sets ≡ others = same_ok (loaded fs 0 g.datasets) sets others read fine in
     none own (subst (λ (xs : List Data). Faults g.root (sets_of xs) [] [] own) rows (subst (λ (x : PlanFile). Faults x.root (sets_of sets) [] [] own) same fault))
@@ -226,7 +230,7 @@ settled_is single c fs St.Done (St.DataRefused d) (text, is) s (plan, of, bad) =
     let served : IsServed fs plan text = text_query c fs text plan is of in absurd (bad_and_good single fs plan d served.file served.sets bad served.plan served.data_read)
 settled_is single c fs (St.PlanRefused r) St.Usage (plan, of, bad) s k = absurd (not_both (is_served c) (plan_served c plan of) k)
 settled_is single c fs (St.PlanRefused r) (St.PlanRefused q) (plan, of, bad) s (name, is, worse) =
-    inl (ap St.PlanRefused (one_refusal single (fs name) r q (subst (λ (n : Bytes). IsPlanRefused (fs n) r) (some_same (plan_of c) plan name of is) bad) worse))
+    inl (ap St.PlanRefused (one_refusal single.texts (fs name) r q (subst (λ (n : Bytes). IsPlanRefused (fs n) r) (some_same (plan_of c) plan name of is) bad) worse))
 settled_is single c fs (St.PlanRefused r) (St.DataRefused d) (plan, of, bad) s (name, is, (f, here, worse)) =
     absurd (refused_and_plan single fs name r (subst (λ (n : Bytes). IsPlanRefused (fs n) r) (some_same (plan_of c) plan name of (query_plan c name is)) bad) (f, here))
 settled_is single c fs (St.DataRefused d) St.Usage (plan, of, bad) s k = absurd (not_both (is_served c) (plan_served c plan (query_plan c plan of)) k)

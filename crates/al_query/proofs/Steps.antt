@@ -13,7 +13,7 @@ use Rattle.al_csv.specs.OutText.{out_text}
 use Rattle.al_value.specs.declared.settings.Settings.{Settings}
 use Rattle.al_words.specs.declared.command.Command.{Command}
 use Rattle.al_words.specs.declared.command.Command.TheVariants as C
-use Rattle.al_words.specs.Words.{IsCommand}
+use Rattle.al_words.specs.Words.{IsCommand, IsSetting}
 use Rattle.al_plan.specs.declared.file.PlanFile.{PlanFile}
 use Rattle.al_plan.specs.declared.file.Refused.{Refused}
 use Rattle.al_plan.specs.declared.file.RefusedKind.TheVariants as refused
@@ -26,7 +26,10 @@ use Rattle.al_plain.specs.Gives.{sets_of, Gives}
 use Rattle.al_print.specs.Canonical.{file_with, plan_text}
 use Rattle.al_print.specs.Explanation.{explanation}
 use Rattle.al_rule.specs.declared.trace.TraceStep.{TraceStep}
-use Rattle.al_opt.specs.Optimised.{LegalTrace}
+use Rattle.al_phys.specs.declared.phys.Phys.{Phys}
+use Rattle.hy_job.specs.declared.job.Job.{Job}
+use Rattle.hy_job.specs.declared.job.Stage.{Stage}
+use Rattle.hy_job.specs.Stages.{StageOf}
 use Rattle.al_value.specs.declared.fault.NoMemory.{NoMemory}
 use Rattle.al_plan.specs.Accept.{IsAccepted, accept_refusal}
 use Rattle.al_read.specs.declared.plan.ReadRefused.{ReadRefused}
@@ -37,8 +40,8 @@ use Rattle.al_query.specs.declared.status.DataRefused.{DataRefused}
 use Rattle.al_query.specs.declared.status.Status.{Status}
 use Rattle.al_query.specs.declared.status.Status.TheVariants as St
 use Rattle.al_query.specs.declared.data.Loaded.{Loaded}
-use Rattle.al_query.specs.Served.{IsPlan, IsPlanRefused, absent, unread, unaccepted, file_rows, of_file, room_behind, size_of, loaded, IsServed, IsPrinted, IsExplained, IsText, is_served, plan_of, query_of, IsAsked, IsDue}
-use Rattle.al_query.specs.Tells.{IsStop, TellsPlan, TellsRead, TellsAccepted, TellsSet, TellsBytes, TellsData, TellsEvaluated, Refuses, TellsAnswer, TellsPrinted, TellsExplained, TellsMade, Explains, TellsText, is_idle, is_usage, unread_status}
+use Rattle.al_query.specs.Served.{IsPlan, IsPlanRefused, absent, unread, unaccepted, file_rows, of_file, room_behind, size_of, loaded, IsServed, IsPrinted, IsCompiled, IsExplained, IsText, is_served, plan_of, query_of, IsAsked, IsDue}
+use Rattle.al_query.specs.Tells.{IsStop, TellsPlan, TellsRead, TellsAccepted, TellsSet, TellsBytes, TellsData, TellsEvaluated, Refuses, TellsAnswer, TellsPrinted, TellsExplained, TellsMade, Explains, IsInRange, TellsText, is_idle, is_usage, unread_status}
 use Rattle.al_query.specs.Answer.{IsAnswer}
 use Rattle.al_query.proofs.Dues.{told_map, told_both}
 
@@ -205,14 +208,31 @@ told_print_stopped files name status h = told_map files (λ fs. TellsPlan (fs na
 pub told_printed : (files : Option Files) (name text : Bytes) (f g : PlanFile) → f ≡ g → Told files (λ fs. TellsPlan (fs name) (Ok f)) → text ≡ plan_text g → Told files (λ fs. TellsPrinted fs name (Ok text))
 told_printed files name text f g is h e = told_map files (λ fs. TellsPlan (fs name) (Ok f)) (λ fs. TellsPrinted fs name (Ok text)) h (λ fs plan. (g, subst (IsPlan (fs name)) is plan, e))
 
-pub told_explanation : (files : Option Files) (name text : Bytes) (f g : PlanFile) → f ≡ g → Told files (λ fs. TellsPlan (fs name) (Ok f)) → Explains g text → Told files (λ fs. TellsExplained fs name (Ok text))
-told_explanation files name text f g is h (steps, q, legal, refines, parts) =
-    told_map files (λ fs. TellsPlan (fs name) (Ok f)) (λ fs. TellsExplained fs name (Ok text)) h
-    (λ fs plan. record { file = g; plan = subst (IsPlan (fs name)) is plan; steps = steps; optimised = q; legal = legal; refines = refines; parts = parts })
+pub told_explanation : (files : Option Files) (name text : Bytes) (partitions : ℕ) (f g : PlanFile) → f ≡ g → Told files (λ fs. TellsPlan (fs name) (Ok f)) → Explains g partitions text → Told files (λ fs. TellsExplained fs name partitions (Ok text))
+told_explanation files name text partitions f g is h e =
+    told_map files (λ fs. TellsPlan (fs name) (Ok f)) (λ fs. TellsExplained fs name partitions (Ok text)) h
+    (λ fs plan. record { file = g; plan = subst (IsPlan (fs name)) is plan; steps = e.steps; optimised = e.optimised; phys = e.phys; job = e.job; compiled = e.compiled; stages = e.stages; in_stages = e.in_stages; parts = e.parts })
 
-pub explained_by : (f : PlanFile) (steps : List TraceStep) (q : Plan) (r : Result Bytes NoMemory) → LegalTrace f.root steps q → Refines q f.root → IfOk r (λ text. text ≡ explanation steps (file_with f q)) → IfOk r (λ text. Explains f text)
-explained_by f steps q (Ok text) legal refines h = (steps, q, legal, refines, h)
-explained_by f steps q (Err e) legal refines h = h
+pub explained_by : (f : PlanFile) (n : ℕ) (steps : List TraceStep) (q : Plan) (ph : Phys) (job : Job) (r : Result Bytes NoMemory) → IsCompiled f.root n steps q ph job
+    → IfOk r (λ text. (ss : List Stage) × StageOf job ss × (text ≡ explanation steps (file_with f q) ph job ss)) → IfOk r (λ text. Explains f n text)
+explained_by f n steps q ph job (Ok text) compiled (ss, in_stages, parts) = record { steps = steps; optimised = q; phys = ph; job = job; compiled = compiled; stages = ss; in_stages = in_stages; parts = parts }
+explained_by f n steps q ph job (Err e) compiled h = h
+
+-- ---- numbers in their ranges
+
+setting_range : (least most default : ℕ) → least ≤ default → default ≤ most → (text : Option Bytes) (n : ℕ) → IsSetting least most default text n → (least ≤ n) × (n ≤ most)
+setting_range least most default low high None n h = (subst (λ (m : ℕ). least ≤ m) (sym h) low, subst (λ (m : ℕ). m ≤ most) (sym h) high)
+setting_range least most default low high (Some text) n h = (h.3, h.4)
+
+pub in_range : (words : List Bytes) (c : Command) → IsCommand words c → IsInRange c
+in_range words (C.Explain plan partitions) h = setting_range 1 16 1 (omega arith) (omega arith) _ partitions h.asks.2
+in_range words (C.Check plan) h = tt
+in_range words (C.Plain plan) h = tt
+in_range words (C.Step plan settings schedule) h = tt
+in_range words (C.Run plan settings workers) h = tt
+in_range words (C.Gen seed rows) h = tt
+in_range words (C.Drill seed rows plan settings) h = tt
+in_range words (C.Frames plan dataset frame_size) h = tt
 
 -- ---- commands
 
@@ -243,10 +263,10 @@ pub told_checked : (files : Option Files) (c : Command) (plan name : Bytes) (r :
 told_checked files c plan name r is same h =
     told_map files (λ fs. TellsPrinted fs name r) (λ fs. TellsText c fs r) h (λ fs k. subst (λ (x : Command). TellsText x fs r) (sym is) (made (C.Check plan) plan fs (IsPrinted fs plan) r refl (λ text h. h) (subst (λ (n : Bytes). TellsPrinted fs n r) same k)))
 
-pub told_explained : (files : Option Files) (c : Command) (plan name : Bytes) (partitions : ℕ) (r : Result Bytes Status) → c ≡ C.Explain plan partitions → name ≡ plan → Told files (λ fs. TellsExplained fs name r) → Told files (λ fs. TellsText c fs r)
+pub told_explained : (files : Option Files) (c : Command) (plan name : Bytes) (partitions : ℕ) (r : Result Bytes Status) → c ≡ C.Explain plan partitions → name ≡ plan → Told files (λ fs. TellsExplained fs name partitions r) → Told files (λ fs. TellsText c fs r)
 told_explained files c plan name partitions r is same h =
-    told_map files (λ fs. TellsExplained fs name r) (λ fs. TellsText c fs r) h
-    (λ fs k. subst (λ (x : Command). TellsText x fs r) (sym is) (made (C.Explain plan partitions) plan fs (IsExplained fs plan) r refl (λ text h. h) (subst (λ (n : Bytes). TellsExplained fs n r) same k)))
+    told_map files (λ fs. TellsExplained fs name partitions r) (λ fs. TellsText c fs r) h
+    (λ fs k. subst (λ (x : Command). TellsText x fs r) (sym is) (made (C.Explain plan partitions) plan fs (IsExplained fs plan partitions) r refl (λ text h. h) (subst (λ (n : Bytes). TellsExplained fs n partitions r) same k)))
 
 pub told_plain : (files : Option Files) (c : Command) (plan name : Bytes) (r : Result Bytes Status) → c ≡ C.Plain plan → name ≡ plan → Told files (λ fs. TellsAnswer fs name r) → Told files (λ fs. TellsText c fs r)
 told_plain files c plan name r is same h =

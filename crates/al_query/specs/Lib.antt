@@ -2,3 +2,4 @@ pub mod Answer
 pub mod Served
 pub mod Tells
 pub mod Lines
+pub mod Compiles

@@ -25,6 +25,14 @@ use Rattle.al_print.specs.Canonical.{file_with, plan_text}
 use Rattle.al_print.specs.Explanation.{explanation}
 use Rattle.al_rule.specs.declared.trace.TraceStep.{TraceStep}
 use Rattle.al_opt.specs.Optimised.{LegalTrace}
+use Rattle.al_phys.specs.declared.phys.Phys.{Phys}
+use Rattle.al_phys.specs.Placed.{Placed}
+use Rattle.al_phys.specs.Stands.{Stands}
+use Rattle.hy_job.specs.declared.job.Job.{Job}
+use Rattle.hy_job.specs.declared.job.Stage.{Stage}
+use Rattle.hy_job.specs.Sound.{SoundJob}
+use Rattle.hy_job.specs.Stages.{StageOf}
+use Rattle.al_jobgen.specs.JobOf.{job_of}
 use Rattle.al_query.specs.declared.status.DataRefused.{DataRefused}
 use Rattle.al_query.specs.declared.status.Status.{Status}
 use Rattle.al_query.specs.declared.status.Status.TheVariants as St
@@ -86,20 +94,33 @@ pub record IsServed (files : Files) (name text : Bytes) : Type 0 where
 abbrev pub IsPrinted : Files → Bytes → Bytes → Type 0
 IsPrinted files name text = (f : PlanFile) × IsPlan (files name) f × (text ≡ plan_text f)
 
--- these bytes are a trace of legal steps and the plan that it leads to, which may stand for the plan of the file
-pub record IsExplained (files : Files) (name text : Bytes) : Type 0 where
+-- a plan is compiled for this many partitions: legal steps lead to a plan that may stand for it, a placed physical plan stands
+-- for that one, and the job is the physical plan's
+pub record IsCompiled (root : Plan) (partitions : ℕ) (steps : List TraceStep) (optimised : Plan) (phys : Phys) (job : Job) : Type 0 where
+  pub legal : LegalTrace root steps optimised
+  pub refines : Refines optimised root
+  pub placed : Placed phys partitions
+  pub stands : Stands optimised phys partitions
+  pub job_is : job ≡ job_of phys partitions
+  pub sound : SoundJob job
+
+-- these bytes are the trace, the plan that it leads to, the physical plan and the job of the plan of the file
+pub record IsExplained (files : Files) (name : Bytes) (partitions : ℕ) (text : Bytes) : Type 0 where
   pub file : PlanFile
   pub plan : IsPlan (files name) file
   pub steps : List TraceStep
   pub optimised : Plan
-  pub legal : LegalTrace file.root steps optimised
-  pub refines : Refines optimised file.root
-  pub parts : text ≡ explanation steps (file_with file optimised)
+  pub phys : Phys
+  pub job : Job
+  pub compiled : IsCompiled file.root partitions steps optimised phys job
+  pub stages : List Stage
+  pub in_stages : StageOf job stages
+  pub parts : text ≡ explanation steps (file_with file optimised) phys job stages
 
 -- the bytes that a command writes; the others are not served yet
 abbrev pub IsText : Command → Files → Bytes → Type 0
 IsText (C.Check plan) files text = IsPrinted files plan text
-IsText (C.Explain plan partitions) files text = IsExplained files plan text
+IsText (C.Explain plan partitions) files text = IsExplained files plan partitions text
 IsText (C.Plain plan) files text = IsServed files plan text
 IsText (C.Step plan settings schedule) files text = IsServed files plan text
 IsText (C.Run plan settings workers) files text = ⊥

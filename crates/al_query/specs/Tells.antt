@@ -1,5 +1,5 @@
 -- What each step of serving a command tells of the words and the files.
-use Rattle.std.specs.Prelude.{◌≡◌, ℕ, ◌+◌, Bool, true, false, List, [], ◌∷◌, ◌++◌, length, Option, Some, None, Result, Ok, Err}
+use Rattle.std.specs.Prelude.{◌≡◌, ◌<◌, ◌≤◌, ℕ, ◌+◌, Bool, true, false, List, [], ◌∷◌, ◌++◌, length, Option, Some, None, Result, Ok, Err}
 use Rattle.std.specs.List.{All}
 use Rattle.al_value.specs.declared.value.Value.{Value}
 use Rattle.al_io.specs.Outside.{Bytes, Files}
@@ -13,11 +13,13 @@ use Rattle.al_read.specs.declared.plan.ReadRefused.{ReadRefused}
 use Rattle.al_read.specs.declared.plan.ReadRefused.TheVariants as A
 use Rattle.al_plan.specs.declared.plan.Plan.{Plan}
 use Rattle.al_plan.specs.Allows.{Faults}
-use Rattle.al_plan.specs.Refines.{Refines}
 use Rattle.al_print.specs.Canonical.{file_with}
 use Rattle.al_print.specs.Explanation.{explanation}
 use Rattle.al_rule.specs.declared.trace.TraceStep.{TraceStep}
-use Rattle.al_opt.specs.Optimised.{LegalTrace}
+use Rattle.al_phys.specs.declared.phys.Phys.{Phys}
+use Rattle.hy_job.specs.declared.job.Job.{Job}
+use Rattle.hy_job.specs.declared.job.Stage.{Stage}
+use Rattle.hy_job.specs.Stages.{StageOf}
 use Rattle.al_plan.specs.Accept.{accept_refusal}
 use Rattle.al_read.specs.Reads.{Reads, IsReadRefusal}
 use Rattle.al_plain.specs.declared.plan.Data.{Data}
@@ -27,7 +29,7 @@ use Rattle.al_query.specs.declared.status.Status.TheVariants as St
 use Rattle.al_query.specs.declared.status.DataRefused.{DataRefused}
 use Rattle.al_query.specs.declared.data.Loaded.{Loaded}
 use Rattle.al_query.specs.Answer.{IsAnswer}
-use Rattle.al_query.specs.Served.{IsPlan, IsPlanRefused, file_rows, size_of, loaded, IsServed, IsPrinted, IsExplained, IsBadData, IsFaulty, IsText, IsAsked}
+use Rattle.al_query.specs.Served.{IsPlan, IsPlanRefused, file_rows, size_of, loaded, IsServed, IsPrinted, IsCompiled, IsExplained, IsBadData, IsFaulty, IsText, IsAsked}
 
 -- a status that reading and computing may end with; `Usage` comes only for a command that isn't served
 abbrev pub IsStop : Status → Type 0
@@ -143,12 +145,24 @@ abbrev pub TellsPrinted : Files → Bytes → Result Bytes Status → Type 0
 TellsPrinted files name = TellsMade (IsPrinted files name) (files name)
 
 -- what explaining the plan of a file gave
-abbrev pub TellsExplained : Files → Bytes → Result Bytes Status → Type 0
-TellsExplained files name = TellsMade (IsExplained files name) (files name)
+abbrev pub TellsExplained : Files → Bytes → ℕ → Result Bytes Status → Type 0
+TellsExplained files name partitions = TellsMade (IsExplained files name partitions) (files name)
 
 -- this text explains the plan of the file
-abbrev pub Explains : PlanFile → Bytes → Type 0
-Explains f text = (steps : List TraceStep) × (q : Plan) × LegalTrace f.root steps q × Refines q f.root × (text ≡ explanation steps (file_with f q))
+pub record Explains (f : PlanFile) (partitions : ℕ) (text : Bytes) : Type 0 where
+  pub steps : List TraceStep
+  pub optimised : Plan
+  pub phys : Phys
+  pub job : Job
+  pub compiled : IsCompiled f.root partitions steps optimised phys job
+  pub stages : List Stage
+  pub in_stages : StageOf job stages
+  pub parts : text ≡ explanation steps (file_with f optimised) phys job stages
+
+-- the numbers of a command are in their ranges
+abbrev pub IsInRange : Command → Type 0
+IsInRange (C.Explain plan partitions) = (0 < partitions) × (partitions ≤ 16)
+IsInRange _ = Unit {0}
 
 -- what making the text of a command gave
 abbrev pub TellsText : Command → Files → Result Bytes Status → Type 0

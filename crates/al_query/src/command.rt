@@ -8,7 +8,7 @@ ghost use Rattle.al_words.specs.Words.{IsCommand};
 ghost use Rattle.al_query.specs.declared.status.Status.{Status as Ended};
 ghost use Rattle.al_query.specs.Lines.{status_line};
 ghost use Rattle.al_query.specs.Served.{IsDue, IsDueOrCut, IsGood, IsText, is_served, is_settled};
-ghost use Rattle.al_query.specs.Tells.{IsNoEnd, IsStop, TellsPrinted, TellsText, is_idle, is_source_fault, is_usage};
+ghost use Rattle.al_query.specs.Tells.{IsInRange, IsNoEnd, IsStop, TellsPrinted, TellsText, is_idle, is_source_fault, is_usage};
 
 use crate::answer::answer;
 use crate::explain::explained;
@@ -106,6 +106,7 @@ fn command_text<S: Source>(
     command: &Command,
     source: &mut S,
 ) -> Result<List<u8>, Status>
+    requires { IsInRange command.now }
     ensures tells { Told (S.files source.old) (λ fs. TellsText command.now fs result) }
     ensures stops { IfErr result IsNoEnd }
     ensures usage { is_usage result ≡ not (is_served command.now) }
@@ -114,7 +115,9 @@ fn command_text<S: Source>(
 {
     match command {
         Command::Check { plan } => printed(alloc, plan.as_str(), source),
-        Command::Explain { plan, .. } => explained(alloc, plan.as_str(), source),
+        Command::Explain { plan, partitions } => {
+            explained(alloc, plan.as_str(), *partitions, source)
+        }
         Command::Plain { plan } => answer(alloc, plan.as_str(), source),
         Command::Step { plan, .. } => answer(alloc, plan.as_str(), source),
         Command::Gen { seed, rows } => match generate(alloc, *seed, *rows) {

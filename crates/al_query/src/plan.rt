@@ -44,7 +44,7 @@ fn plan_refused(kind: RefusedKind, place: u32) -> Status
 }
 
 /// The accepted file of a text.
-fn accept_text(alloc: Global, bytes: &[u8]) -> Result<Boxed<PlanFile>, Status>
+pub fn accept_text(alloc: Global, bytes: &[u8]) -> Result<Boxed<PlanFile>, Status>
     ensures tells { TellsPlan (Some bytes.now) result }
     ensures fits { IfOk result (λ f. Fit f.root) }
     ensures accepted { IfOk result IsAccepted }

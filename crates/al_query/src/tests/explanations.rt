@@ -7,7 +7,7 @@ use std::test::Fail;
 const EMP_AND_DEPT: &str = "$id $name $dept $pay $c $t";
 
 /// A plan over the variables that are listed, the steps of its trace, and the plan that they lead
-/// to. SCAN stands for the scan of emp, and DEPT for that of dept.
+/// to; what comes behind the line `physical` is left open. SCAN stands for the scan of emp, and DEPT for that of dept.
 struct Row<'a> {
     listed: &'a str,
     plan: &'a str,
@@ -25,9 +25,71 @@ fn explains<R: Abort + AllocGlobal>(rt: &R, row: &Row) -> Result<(), Fail> {
     let file = dept_file(alloc, row.listed, row.plan)?;
     let after = dept_file(alloc, row.listed, row.rewritten)?;
     let steps = row.steps;
-    let text = format!(in alloc; "trace\n{steps}plan\n{after}\n")?;
-    let case = Case::of_plan("explain p --partitions 2", file.as_str());
-    expect(rt, &case, 0, text.as_str(), "")
+    let text = format!(in alloc; "trace\n{steps}plan\n{after}\nphysical\n")?;
+    let left = serve(
+        alloc,
+        &Case::of_plan("explain p --partitions 2", file.as_str()),
+    )?;
+    assert_eq!(rt; left.code, 0);
+    assert!(rt; left.out.bytes().starts_with(text.as_bytes()));
+    Ok(())
+}
+
+const OF_A_SELECT: &str = "trace
+1 prune result-project /
+2 prune project-below-select /0
+plan
+(algebricks 1 (dataset emp \"emp.csv\" (id int) (name text) (dept text) (pay int)) (result ($id) (project ($id) (select (eq $dept \"X\") (project ($id $dept) (scan emp ($id $name $dept $pay)))))))
+physical
+result ($id) | unpartitioned | none
+  gather | unpartitioned | none
+    project ($id) | random | none
+      select (eq $dept \"X\") | random | none
+        project ($id $dept) | random | none
+          scan emp ($id $name $dept $pay) | random | none
+job
+stage 0: 0 1 2 3 4
+activity 0 scan
+activity 1 project
+activity 2 select
+activity 3 project
+activity 4 result
+wire 0 -> 1 one-to-one
+wire 1 -> 2 one-to-one
+wire 2 -> 3 one-to-one
+wire 3 -> 4 gather
+";
+
+const OF_AN_ORDER: &str = "trace
+plan
+(algebricks 1 (dataset t \"t.csv\" (a int)) (result ($a) (order (($a asc)) (scan t ($a)))))
+physical
+result ($a) | unpartitioned | order (($a asc))
+  merge (($a asc)) | unpartitioned | order (($a asc))
+    sort (($a asc)) | random | order (($a asc))
+      scan t ($a) | random | none
+job
+stage 0: 0 1
+stage 1: 2 3
+activity 0 scan
+activity 1 sort-build
+activity 2 sort-emit
+activity 3 result
+wire 0 -> 1 one-to-one
+wire 2 -> 3 merge
+block 1 -> 2
+";
+
+#[test]
+fn explains_whole(rt: HostRuntime) -> Result<(), Fail> {
+    let select =
+        "(algebricks 1 (dataset emp \"emp.csv\" (id int) (name text) (dept text) (pay int)) (result ($id) (select (eq $dept \"X\") (scan emp ($id $name $dept $pay)))))";
+    let case = Case::of_plan("explain p --partitions 2", select);
+    expect(&rt, &case, 0, OF_A_SELECT, "")?;
+    let order =
+        "(algebricks 1 (dataset t \"t.csv\" (a int)) (result ($a) (order (($a asc)) (scan t ($a)))))";
+    let case = Case::of_plan("explain p --partitions 2", order);
+    expect(&rt, &case, 0, OF_AN_ORDER, "")
 }
 
 const SELECTS: [Row<'static>; 12] = [

@@ -1,8 +1,11 @@
 use Rattle.std.proofs.Common.{◌≡◌, ◌++◌, Some, inl, inr, refl}
 use Rattle.al_io.specs.Outside.{GainsPrefix}
 use Rattle.al_query.specs.declared.status.Status.TheVariants as St
-use Rattle.al_query.proofs.Steps.{idle_of, told_due_of, told_usage, told_wrote, unserved, usage_of}
+use Rattle.al_query.proofs.Steps.{idle_of, in_range, told_due_of, told_usage, told_wrote, unserved, usage_of}
 use Rattle.al_query.proofs.command.serve.Goals as goal
+
+pub command_text-requires : goal.command_text-requires
+command_text-requires g c = in_range _ c.in-Ok.command c.in-Ok.ensures
 
 pub returns-in-Err-Usage-clause-usage : goal.returns-in-Err-Usage-clause-usage
 returns-in-Err-Usage-clause-usage g c = λ e d is. absurd (c.in-Err-Usage.ensures c.in-Err-Usage.field-0-is d is)
