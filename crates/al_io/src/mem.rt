@@ -1,5 +1,7 @@
-ghost use Rattle.std.specs.Prelude.{◌≡◌, ◌++◌, ◌∷◌, [], OnOk, OnErr, IfOk, None, option_map, vec_capacity, ◌≤◌};
-ghost use Rattle.al_io.specs.Mem.{file_of, files_in, faults_in, failing_in};
+ghost use Rattle.std.specs.Prelude.{◌≡◌, ◌++◌, ◌∷◌, [], OnOk, OnErr, IfOk, None, option_map, vec_capacity, ◌≤◌, ◌<◌, ◌-◌, ◌↔◌, length, min, take, Some, Ok, IsTrue, true, false};
+ghost use Rattle.std.specs.List.{Contains};
+ghost use Rattle.al_io.specs.Outside.{Counted, Moves, Opens, Told, failed, is_failed};
+ghost use Rattle.al_io.specs.Mem.{Fails, calls_in, content_in, file_of, files_in, faults_in, failing_in, is_open_in, next_call};
 
 use crate::sink::Sink;
 use crate::source::{ReadFault, Source};
@@ -28,7 +30,10 @@ pub struct MemSource {
 }
 
 /// Whether this call is to fail; it is counted.
-fn counts(failing: &[u64], calls: &mut u64) -> bool {
+fn counts(failing: &[u64], calls: &mut u64) -> bool
+    ensures fails { IsTrue result ↔ Contains failing.now calls.old }
+    ensures counted { calls.new ≡ next_call calls.old }
+{
     let number = *calls;
     *calls = number.saturating_add(1);
     failing.contains(&number)
@@ -63,6 +68,7 @@ impl MemSource {
     pub fn new(alloc: Global) -> MemSource
         ensures files { files_in result ≡ [] }
         ensures failing { failing_in result ≡ [] }
+        ensures calls { calls_in result ≡ 0 }
         ensures faults { faults_in result ≡ 0 }
     {
         MemSource {
@@ -82,6 +88,7 @@ impl MemSource {
         ensures ok { OnOk result (files_in self.new ≡ files_in self.old ++ (record { name = name.now; bytes = bytes.now } ∷ [])) }
         ensures err { OnErr result (files_in self.new ≡ files_in self.old) }
         ensures failing { failing_in self.new ≡ failing_in self.old }
+        ensures calls { calls_in self.new ≡ calls_in self.old }
         ensures faults { faults_in self.new ≡ faults_in self.old }
     {
         let name = Name::new(self.alloc, name)?;
@@ -89,11 +96,13 @@ impl MemSource {
         self.files.push(MemFile { name, bytes })
     }
 
-    /// Lets the call of a number fail.
+    /// Lets the call of a number fail. The next call of `open` or `read` has as its number how many
+    /// there were.
     pub fn fail_call(&mut self, number: u64) -> Result<(), NoMemory>
         ensures ok { OnOk result (failing_in self.new ≡ failing_in self.old ++ (number ∷ [])) }
         ensures err { OnErr result (failing_in self.new ≡ failing_in self.old) }
         ensures files { files_in self.new ≡ files_in self.old }
+        ensures calls { calls_in self.new ≡ calls_in self.old }
         ensures faults { faults_in self.new ≡ faults_in self.old }
     {
         self.failing.push(number)
@@ -112,7 +121,15 @@ impl Source for MemSource {
 
     ghost faults = { λ s. s.faults };
 
-    fn open(&mut self, name: &str) -> Result<bool, ReadFault> {
+    fn open(&mut self, name: &str) -> Result<bool, ReadFault>
+        ensures files { files_in self.new ≡ files_in self.old }
+        ensures opens { Opens (Some (file_of (files_in self.old))) name.now result (Some (content_in self.new)) }
+        ensures opened { IsTrue (is_open_in self.new) ↔ (result ≡ Ok true) }
+        ensures cause { Counted (is_failed result) (faults_in self.old) (faults_in self.new) }
+        ensures fails { IsTrue (is_failed result) ↔ Fails self.old }
+        ensures failing { failing_in self.new ≡ failing_in self.old }
+        ensures calls { calls_in self.new ≡ next_call (calls_in self.old) }
+    {
         self.opened = false;
         if counts(self.failing.as_slice(), &mut self.calls) {
             self.faults = self.faults.saturating_add(1);
@@ -129,7 +146,20 @@ impl Source for MemSource {
         }
     }
 
-    fn read(&mut self, buf: &mut [u8]) -> Result<usize, Failed> {
+    fn read(&mut self, buf: &mut [u8]) -> Result<usize, Failed>
+        requires opened { IsTrue (is_open_in self.old) }
+        requires room { 0 < length buf.old }
+        ensures files { files_in self.new ≡ files_in self.old }
+        ensures opened { OnOk result (IsTrue (is_open_in self.new)) }
+        ensures closed { OnErr result (is_open_in self.new ≡ false) }
+        ensures bound { IfOk result (λ n. n ≤ length buf.new) }
+        ensures moves { IfOk result (λ n. Moves (Some (content_in self.old)) (Some (content_in self.new)) buf.new n) }
+        ensures cause { Counted (failed result) (faults_in self.old) (faults_in self.new) }
+        ensures fits { IfOk result (λ n. n ≡ min (length (content_in self.old)) (length buf.old)) }
+        ensures fails { IsTrue (failed result) ↔ Fails self.old }
+        ensures failing { failing_in self.new ≡ failing_in self.old }
+        ensures calls { calls_in self.new ≡ next_call (calls_in self.old) }
+    {
         if counts(self.failing.as_slice(), &mut self.calls) {
             self.faults = self.faults.saturating_add(1);
             self.opened = false;
@@ -181,7 +211,16 @@ impl Sink for MemSink {
 
     ghost faults = { λ s. s.faults };
 
-    fn write(&mut self, piece: &[u8]) -> Result<usize, Failed> {
+    fn write(&mut self, piece: &[u8]) -> Result<usize, Failed>
+        requires { 0 < length piece.now }
+        ensures bound { IfOk result (λ n. (0 < n) × (n ≤ length piece.now)) }
+        ensures gains { IfOk result (λ n. self.new.bytes.items ≡ self.old.bytes.items ++ take n piece.now) }
+        ensures err { OnErr result (self.new.bytes.items ≡ self.old.bytes.items) }
+        ensures cause { Counted (failed result) self.old.faults self.new.faults }
+        ensures fits { IfOk result (λ n. n ≡ min (self.old.room - length self.old.bytes.items) (length piece.now)) }
+        ensures fails { IsTrue (failed result) ↔ (self.old.room ≤ length self.old.bytes.items) }
+        ensures room { self.new.room ≡ self.old.room }
+    {
         let left = self.room.saturating_sub(self.bytes.len());
         let n = left.min(piece.len());
         if n == 0 {
