@@ -1,10 +1,11 @@
 -- What a walk finds, and what a rewriting at its place leaves as it was.
-use Rattle.std.proofs.Common.{◌≡◌, ◌<◌, ℕ, zero, suc, List, [], ◌∷◌, length, Option, Some, None, Result, Ok, Err, IfOk, refl, ap, sym, subst, ◌∙◌, arith}
+use Rattle.std.proofs.Common.{◌≡◌, ◌⊎◌, inl, inr, ◌<◌, ℕ, zero, suc, List, [], ◌∷◌, length, Option, Some, None, Result, Ok, Err, IfOk, refl, ap, sym, subst, ◌∙◌, arith}
+use Rattle.std.proofs.lemmas.Bool.{cases_order}
 use Rattle.al_plan.specs.declared.plan.Plan.{Plan}
 use Rattle.al_rule.specs.declared.find.Found.{Found}
 use Rattle.al_rule.specs.Places.{Rewriting, input, with_input, plan_at, and_then, Applied}
 use Rattle.al_rule.specs.Rules.{Rules, Matches, Stuck, IsLocal}
-use Rattle.al_rule.specs.Walks.{NoneHere, NoneBefore, MatchesAt, IsNext, Finds, FindsIn}
+use Rattle.al_rule.specs.Walks.{NoneHere, NoneBefore, NoneFrom, MatchesAt, IsBefore, IsNext, Finds, FindsIn}
 use Rattle.al_rule.proofs.PlaceLaws.{no_third, input_with, input_beside, with_twice}
 
 -- ---- the part at a place
@@ -114,76 +115,208 @@ pub below_before : (rules : Rules) (i : ℕ) (place : List ℕ) (p : Plan) → N
 unfolding NoneBefore
 below_before rules i place p b = b.2
 
+-- ---- the order of places
+
+pub before_root : (place : List ℕ) → IsBefore place [] → ⊥
+unfolding IsBefore
+before_root place h = h
+
+root_before_parts : (i : ℕ) (place : List ℕ) → IsBefore [] (i ∷ place)
+unfolding IsBefore
+root_before_parts i place = tt
+
+left_is_before : (i j : ℕ) (place other : List ℕ) → i < j → IsBefore (i ∷ place) (j ∷ other)
+unfolding IsBefore
+left_is_before i j place other h = inl h
+
+below_is_before : (i : ℕ) (place other : List ℕ) → IsBefore place other → IsBefore (i ∷ place) (i ∷ other)
+unfolding IsBefore
+below_is_before i place other h = inr (refl, h)
+
+parted : (i j : ℕ) (place other : List ℕ) → IsBefore (i ∷ place) (j ∷ other) → (i < j) ⊎ ((i ≡ j) × IsBefore place other)
+unfolding IsBefore
+parted i j place other h = h
+
+before_below : (i : ℕ) (place other : List ℕ) → IsBefore (i ∷ place) (i ∷ other) → IsBefore place other
+before_below i place other h = below_at (parted i i place other h) where
+  below_at : (i < i) ⊎ ((i ≡ i) × IsBefore place other) → IsBefore place other
+  below_at (inl less) = absurd (omega arith)
+  below_at (inr (same, b)) = b
+
+before_or_below : (i : ℕ) (a b : List ℕ) → IsBefore a b ⊎ (IsBefore a b → ⊥) → IsBefore (i ∷ a) (i ∷ b) ⊎ (IsBefore (i ∷ a) (i ∷ b) → ⊥)
+before_or_below i a b (inl h) = inl (below_is_before i a b h)
+before_or_below i a b (inr f) = inr (λ h. f (before_below i a b h))
+
+not_behind : (i j : ℕ) (a b : List ℕ) → j < i → IsBefore (i ∷ a) (j ∷ b) → ⊥
+not_behind i j a b less h = behind_at (parted i j a b h) where
+  behind_at : (i < j) ⊎ ((i ≡ j) × IsBefore a b) → ⊥
+  behind_at (inl other) = omega arith
+  behind_at (inr (same, h)) = omega arith
+
+pub before_or_not : (a b : List ℕ) → IsBefore a b ⊎ (IsBefore a b → ⊥)
+before_or_not a [] = inr (before_root a)
+before_or_not [] (j ∷ b) = inl (root_before_parts j b)
+before_or_not (i ∷ a) (j ∷ b) = by_order (cases_order i j) (before_or_not a b) where
+  by_order : (i ≡ j) ⊎ ((i < j) ⊎ (j < i)) → IsBefore a b ⊎ (IsBefore a b → ⊥) → IsBefore (i ∷ a) (j ∷ b) ⊎ (IsBefore (i ∷ a) (j ∷ b) → ⊥)
+  by_order (inl same) h = subst (λ (n : ℕ). IsBefore (i ∷ a) (n ∷ b) ⊎ (IsBefore (i ∷ a) (n ∷ b) → ⊥)) same (before_or_below i a b h)
+  by_order (inr (inl less)) h = inl (left_is_before i j a b less)
+  by_order (inr (inr more)) h = inr (not_behind i j a b more)
+
+-- ---- where nothing matches before a place
+
+pub none_at_before : (rules : Rules) (place : List ℕ) (p : Plan) → NoneBefore rules place p → (k : ℕ) → k < rules.count → (other : List ℕ) → IsBefore other place → MatchesAt (rules.rewrites k) other p → ⊥
+none_at_before rules [] p b k low other h m = before_root other h
+none_at_before rules (i ∷ place) p b k low [] h (x, e, m) = root_before rules i place p b k low (root_matches (rules.rewrites k) p x e m)
+none_at_before rules (i ∷ place) p b k low (j ∷ other) h (x, e, m) =
+    by_part (parted j i other place h) (part_below j other p x e) (λ z c g n. none_at_before rules place z c k low other g n) where
+      by_part : (j < i) ⊎ ((j ≡ i) × IsBefore other place) → (z : Plan) × (input p j ≡ Some z) × (plan_at other z ≡ Some x)
+          → ((z : Plan) → NoneBefore rules place z → IsBefore other place → MatchesAt (rules.rewrites k) other z → ⊥) → ⊥
+      by_part (inl less) (z, jz, ez) below = left_before rules i place p b j less z jz k low other x ez m
+      by_part (inr (same, g)) (z, jz, ez) below =
+          let iz : input p i ≡ Some z = subst (λ (n : ℕ). input p n ≡ Some z) same jz in
+          below z (below_before rules i place p b z iz) g (x, ez, m)
+
+pub none_before_by : (rules : Rules) (place : List ℕ) (p : Plan) → ((k : ℕ) → k < rules.count → (other : List ℕ) → IsBefore other place → MatchesAt (rules.rewrites k) other p → ⊥) → NoneBefore rules place p
+none_before_by rules [] p f = none_at_root rules p
+none_before_by rules (i ∷ place) p f =
+    none_before rules i place p
+    (λ k low m. f k low [] (root_before_parts i place) (p, at_root p, m))
+    (λ j less z e k low other x ez m. f k low (j ∷ other) (left_is_before j i other place less) (x, part_above j other p z x e ez, m))
+    (λ z e. none_before_by rules place z (λ k low other h (x, ez, m). f k low (i ∷ other) (below_is_before i other place h) (x, part_above i other p z x e ez, m)))
+
+-- where nothing matches before the place where a walk stands, nothing does before the next one
+pub none_further : (rules : Rules) (from : List ℕ) (p : Plan) (k : ℕ) (place : List ℕ) → IsNext rules from p k place → NoneBefore rules from p → NoneBefore rules place p
+none_further rules from p k place n b = none_before_by rules place p (λ j low other h m. by_order j low other h m (before_or_not other from)) where
+  by_order : (j : ℕ) → j < rules.count → (other : List ℕ) → IsBefore other place → MatchesAt (rules.rewrites j) other p → IsBefore other from ⊎ (IsBefore other from → ⊥) → ⊥
+  by_order j low other h m (inl g) = none_at_before rules from p b j low other g m
+  by_order j low other h m (inr g) = n.nearest j low other g h m
+
+-- where nothing matches before the place nor from it on, nothing matches
+pub none_at_all : (rules : Rules) (from : List ℕ) (p : Plan) → NoneFrom rules from p → NoneBefore rules from p → Stuck rules p
+none_at_all rules from p none b k low place x e m = by_order (before_or_not place from) where
+  by_order : IsBefore place from ⊎ (IsBefore place from → ⊥) → ⊥
+  by_order (inl g) = none_at_before rules from p b k low place g (x, e, m)
+  by_order (inr g) = none k low place g (x, e, m)
+
 -- ---- what is found
 
-pub root_found : (rules : Rules) (from place : List ℕ) (p : Plan) (k : ℕ) → place ≡ [] → k < rules.count → Matches (rules.rewrites k) p → ((j : ℕ) → j < k → Matches (rules.rewrites j) p → ⊥) → IsNext rules from p k place
-root_found rules from place p k is low m first =
-    let here : IsNext rules from p k [] = (low, (p, at_root p, m), λ b. none_at_root rules p, λ j less (x, e, n). first j less (root_matches (rules.rewrites j) p x e n)) in
-    subst (λ (l : List ℕ). IsNext rules from p k l) (sym is) here
+pub root_found : (rules : Rules) (from place : List ℕ) (p : Plan) (k : ℕ) → from ≡ [] → place ≡ [] → k < rules.count → Matches (rules.rewrites k) p → ((j : ℕ) → j < k → Matches (rules.rewrites j) p → ⊥) → IsNext rules from p k place
+root_found rules from place p k from_is is low m first =
+    let here : IsNext rules [] p k [] = record {
+      known = low;
+      matches = (p, at_root p, m);
+      first = λ j less (x, e, n). first j less (root_matches (rules.rewrites j) p x e n);
+      on = before_root [];
+      nearest = λ j low other g h n. before_root other h;
+    } in
+    subst (λ (l : List ℕ). IsNext rules l p k place) (sym from_is) (subst (λ (l : List ℕ). IsNext rules [] p k l) (sym is) here)
 
-first_place : (rules : Rules) (p : Plan) → NoneHere rules p → NoneBefore rules (zero ∷ []) p
-first_place rules p here = none_before rules zero [] p here (λ j low. absurd (omega arith)) (λ x e. none_at_root rules x)
+-- what is no place before the first input is the root or none before it
+none_past_root : (rules : Rules) (p : Plan) → NoneHere rules p → (j : ℕ) → j < rules.count → (other : List ℕ) → ((IsBefore other (zero ∷ []) → ⊥) → MatchesAt (rules.rewrites j) other p → ⊥) → MatchesAt (rules.rewrites j) other p → ⊥
+none_past_root rules p here j low [] f (x, e, m) = here j low (root_matches (rules.rewrites j) p x e m)
+none_past_root rules p here j low (i ∷ other) f m = f (λ h. past_at (parted i zero other [] h)) m where
+  past_at : (i < zero) ⊎ ((i ≡ zero) × IsBefore other []) → ⊥
+  past_at (inl less) = omega arith
+  past_at (inr (same, h)) = before_root other h
 
 -- past the root the walk goes on at the first input
-pub past_root : (rules : Rules) (p : Plan) → NoneHere rules p → (r : Option Found) → Finds rules (zero ∷ []) p r → Finds rules [] p r
-past_root rules p here None h = λ b. h (first_place rules p here)
-past_root rules p here (Some f) (low, m, next, first) = (low, m, λ b. next (first_place rules p here), first)
+past_root : (rules : Rules) (p : Plan) → NoneHere rules p → (r : Option Found) → Finds rules (zero ∷ []) p r → Finds rules [] p r
+past_root rules p here None none = λ j low other g m. none_past_root rules p here j low other (λ past n. none j low other past n) m
+past_root rules p here (Some f) n = record {
+  known = n.known;
+  matches = n.matches;
+  first = n.first;
+  on = before_root f.place.children;
+  nearest = λ j low other g h m. none_past_root rules p here j low other (λ past k. n.nearest j low other past h k) m;
+}
 
 pub past_root_from : (rules : Rules) (from : List ℕ) (p : Plan) → from ≡ [] → NoneHere rules p → (r : Option Found) → Finds rules (zero ∷ from) p r → Finds rules from p r
 past_root_from rules from p is here r h = subst (λ (l : List ℕ). Finds rules l p r) (sym is) (past_root rules p here r (subst (λ (l : List ℕ). Finds rules (zero ∷ l) p r) is h))
 
 pub part_found : (rules : Rules) (i : ℕ) (from : List ℕ) (p part : Plan) → input p i ≡ Some part → Finds rules from part None → FindsIn rules i from p None
-part_found rules i from p part here h x e b =
+part_found rules i from p part here none x e =
     let same : part ≡ x = one_input p i part x here e in
-    subst (Stuck rules) same (h (subst (NoneBefore rules from) (sym same) b))
+    subst (NoneFrom rules from) same none
 
 pub found_below : (rules : Rules) (i : ℕ) (from : List ℕ) (p part : Plan) (found f : Found) → input p i ≡ Some part → Finds rules from part (Some found) → f.rule ≡ found.rule → f.place.children ≡ i ∷ found.place.children → FindsIn rules i from p (Some f)
 found_below rules i from p part found f here h rule_is place_is =
     (found.place.children, place_is, (part, here, subst (λ (k : ℕ). IsNext rules from part k found.place.children) (sym rule_is) h))
 
+-- nothing matches in an input at a place that is not before this one there
+none_in_part : (rules : Rules) (i : ℕ) (from other : List ℕ) (p : Plan) (k : ℕ) → k < rules.count → FindsIn rules i from p None → (IsBefore other from → ⊥) → MatchesAt (rules.rewrites k) (i ∷ other) p → ⊥
+none_in_part rules i from other p k low none g (x, e, m) = let (z, iz, ez) = part_below i other p x e in none z iz k low other g (x, ez, m)
+
+-- there is no input past the second
+none_past_parts : (R : Rewriting) (i : ℕ) (other : List ℕ) (p : Plan) → MatchesAt R (suc (suc i) ∷ other) p → ⊥
+none_past_parts R i other p (x, e, m) =
+    let (z, iz, ez) = part_below (suc (suc i)) other p x e in
+    let none : input p (suc (suc i)) ≡ None = no_third p i in
+    absurd cc
+
+-- what is found in the part is the next match of the whole, where nothing matches on the way to it
+next_of_part : (rules : Rules) (i from_i : ℕ) (from rest part_from : List ℕ) (p x : Plan) (k : ℕ) → input p i ≡ Some x → IsNext rules part_from x k rest → (IsBefore (i ∷ rest) (from_i ∷ from) → ⊥)
+    → ((j : ℕ) → j < rules.count → (other : List ℕ) → (IsBefore other (from_i ∷ from) → ⊥) → IsBefore other (i ∷ rest) → MatchesAt (rules.rewrites j) other p → ⊥)
+    → IsNext rules (from_i ∷ from) p k (i ∷ rest)
+next_of_part rules i from_i from rest part_from p x k here n on nearest =
+    let (y, at_place, m) = n.matches in
+    record {
+      known = n.known;
+      matches = (y, part_above i rest p x y here at_place, m);
+      first = λ j less h. n.first j less (matches_below (rules.rewrites j) i rest p x here h);
+      on = on;
+      nearest = nearest;
+    }
+
 pub found_here : (rules : Rules) (i : ℕ) (from : List ℕ) (p : Plan) (f : Found) → FindsIn rules i from p (Some f) → Finds rules (i ∷ from) p (Some f)
-found_here rules i from p f (rest, is, (x, here, (low, (y, at_place, m), next, first))) =
-    let found : IsNext rules (i ∷ from) p f.rule (i ∷ rest) = (
-      low,
-      (y, part_above i rest p x y here at_place, m),
-      λ b. none_before rules i rest p (root_before rules i from p b) (left_before rules i from p b) (λ z e.
-          subst (NoneBefore rules rest) (one_input p i x z here e) (next (below_before rules i from p b x here))),
-      λ j less n. first j less (matches_below (rules.rewrites j) i rest p x here n),
-    ) in
-    subst (λ (place : List ℕ). IsNext rules (i ∷ from) p f.rule place) (sym is) found
+found_here rules i from p f (rest, is, (x, here, n)) =
+    subst (λ (place : List ℕ). IsNext rules (i ∷ from) p f.rule place) (sym is)
+    (next_of_part rules i i from rest from p x f.rule here n (λ h. n.on (before_below i rest from h)) nearest) where
+      nearest : (j : ℕ) → j < rules.count → (other : List ℕ) → (IsBefore other (i ∷ from) → ⊥) → IsBefore other (i ∷ rest) → MatchesAt (rules.rewrites j) other p → ⊥
+      nearest j low [] g h m = g (root_before_parts i from)
+      nearest j low (a ∷ other) g h m = by_part (parted a i other rest h) where
+        by_part : (a < i) ⊎ ((a ≡ i) × IsBefore other rest) → ⊥
+        by_part (inl less) = g (left_is_before a i other from less)
+        by_part (inr (same, b)) =
+            n.nearest j low other (λ c. g (subst (λ (l : ℕ). IsBefore (l ∷ other) (i ∷ from)) (sym same) (below_is_before i other from c))) b
+            (matches_below (rules.rewrites j) i other p x here (subst (λ (l : ℕ). MatchesAt (rules.rewrites j) (l ∷ other) p) same m))
 
--- the inputs of a plan, from the first one on
-two_inputs : (rules : Rules) (from : List ℕ) (p : Plan) → FindsIn rules zero from p None → FindsIn rules (suc zero) [] p None → NoneBefore rules (zero ∷ from) p → (i : ℕ) (x : Plan) → input p i ≡ Some x → Stuck rules x
-two_inputs rules from p first second b zero x e = first x e (below_before rules zero from p b x e)
-two_inputs rules from p first second b (suc zero) x e = second x e (none_at_root rules x)
-two_inputs rules from p first second b (suc (suc i)) x e = let none : input p (suc (suc i)) ≡ None = no_third p i in absurd cc
+-- after the first input comes the second
+none_in_first : (rules : Rules) (from other : List ℕ) (p : Plan) (j : ℕ) → j < rules.count → FindsIn rules zero from p None → (IsBefore (zero ∷ other) (zero ∷ from) → ⊥) → MatchesAt (rules.rewrites j) (zero ∷ other) p → ⊥
+none_in_first rules from other p j low none g m = none_in_part rules zero from other p j low none (λ h. g (below_is_before zero other from h)) m
 
-pub found_later : (rules : Rules) (from : List ℕ) (p : Plan) → FindsIn rules zero from p None → (r : Option Found) → FindsIn rules (suc zero) [] p r → Finds rules (zero ∷ from) p r
-found_later rules from p first None second = λ b. stuck_by_parts rules p (root_before rules zero from p b) (two_inputs rules from p first second b)
-found_later rules from p first (Some f) (rest, is, (x, here, (low, (y, at_place, m), next, best))) =
-    let found : IsNext rules (zero ∷ from) p f.rule (suc zero ∷ rest) = (
-      low,
-      (y, part_above (suc zero) rest p x y here at_place, m),
-      λ b. none_before rules (suc zero) rest p (root_before rules zero from p b)
-          (λ j below z e. let j_is : j ≡ zero = omega arith in let at_first : input p zero ≡ Some z = subst (λ (n : ℕ). input p n ≡ Some z) j_is e in first z at_first (below_before rules zero from p b z at_first))
-          (λ z e. subst (NoneBefore rules rest) (one_input p (suc zero) x z here e) (next (none_at_root rules x))),
-      λ j less n. best j less (matches_below (rules.rewrites j) (suc zero) rest p x here n),
-    ) in
-    subst (λ (place : List ℕ). IsNext rules (zero ∷ from) p f.rule place) (sym is) found
+found_later : (rules : Rules) (from : List ℕ) (p : Plan) → FindsIn rules zero from p None → (r : Option Found) → FindsIn rules (suc zero) [] p r → Finds rules (zero ∷ from) p r
+found_later rules from p first None second = none where
+  none : NoneFrom rules (zero ∷ from) p
+  none j low [] g m = g (root_before_parts zero from)
+  none j low (zero ∷ other) g m = none_in_first rules from other p j low first g m
+  none j low (suc zero ∷ other) g m = none_in_part rules (suc zero) [] other p j low second (before_root other) m
+  none j low (suc (suc i) ∷ other) g m = none_past_parts (rules.rewrites j) i other p m
+found_later rules from p first (Some f) (rest, is, (x, here, n)) =
+    subst (λ (place : List ℕ). IsNext rules (zero ∷ from) p f.rule place) (sym is)
+    (next_of_part rules (suc zero) zero from rest [] p x f.rule here n (not_behind (suc zero) zero rest from (omega arith)) nearest) where
+      nearest : (j : ℕ) → j < rules.count → (other : List ℕ) → (IsBefore other (zero ∷ from) → ⊥) → IsBefore other (suc zero ∷ rest) → MatchesAt (rules.rewrites j) other p → ⊥
+      nearest j low [] g h m = g (root_before_parts zero from)
+      nearest j low (zero ∷ other) g h m = none_in_first rules from other p j low first g m
+      nearest j low (suc zero ∷ other) g h m = n.nearest j low other (before_root other) (before_below (suc zero) other rest h) (matches_below (rules.rewrites j) (suc zero) other p x here m)
+      nearest j low (suc (suc i) ∷ other) g h m = none_past_parts (rules.rewrites j) i other p m
 
 pub later_from : (rules : Rules) (i : ℕ) (from : List ℕ) (p : Plan) → i ≡ zero → FindsIn rules i from p None → (r : Option Found) → FindsIn rules (suc zero) [] p r → Finds rules (i ∷ from) p r
 later_from rules i from p is first r second =
     subst (λ (n : ℕ). Finds rules (n ∷ from) p r) (sym is) (found_later rules from p (subst (λ (n : ℕ). FindsIn rules n from p None) is first) r second)
 
-last_inputs : (rules : Rules) (i : ℕ) (from : List ℕ) (p : Plan) → (i ≡ zero → ⊥) → FindsIn rules i from p None → NoneBefore rules (i ∷ from) p → (j : ℕ) (x : Plan) → input p j ≡ Some x → Stuck rules x
-last_inputs rules zero from p other h b j x e = absurd (other refl)
-last_inputs rules (suc i) from p other h b zero x e = left_before rules (suc i) from p b zero (omega arith) x e
-last_inputs rules (suc zero) from p other h b (suc zero) x e = h x e (below_before rules (suc zero) from p b x e)
-last_inputs rules (suc (suc i)) from p other h b (suc zero) x e = left_before rules (suc (suc i)) from p b (suc zero) (omega arith) x e
-last_inputs rules (suc i) from p other h b (suc (suc j)) x e = let none : input p (suc (suc j)) ≡ None = no_third p j in absurd cc
-
+-- behind a place in an input that is not the first there is nothing but the rest of that input
 pub found_none : (rules : Rules) (i : ℕ) (from : List ℕ) (p : Plan) → (i ≡ zero → ⊥) → FindsIn rules i from p None → Finds rules (i ∷ from) p None
-found_none rules i from p other h b = stuck_by_parts rules p (root_before rules i from p b) (last_inputs rules i from p other h b)
+found_none rules i from p other h j low [] g m = g (root_before_parts i from)
+found_none rules i from p other h j low (a ∷ place) g m = by_part (cases_order a i) where
+  past : (a : ℕ) → i < a → MatchesAt (rules.rewrites j) (a ∷ place) p → ⊥
+  past zero more n = absurd (omega arith)
+  past (suc zero) more n = other (omega arith)
+  past (suc (suc b)) more n = none_past_parts (rules.rewrites j) b place p n
+
+  by_part : (a ≡ i) ⊎ ((a < i) ⊎ (i < a)) → ⊥
+  by_part (inl same) = none_in_part rules i from place p j low h (λ b. g (subst (λ (l : ℕ). IsBefore (l ∷ place) (i ∷ from)) (sym same) (below_is_before i place from b))) (subst (λ (l : ℕ). MatchesAt (rules.rewrites j) (l ∷ place) p) same m)
+  by_part (inr (inl less)) = g (left_is_before a i place from less)
+  by_part (inr (inr more)) = past a more m
 
 -- ---- a walk goes on at the place where a rule was applied
 

@@ -5,7 +5,7 @@ ghost use Rattle.al_plan.specs.Refines.{Fit, Replaces};
 ghost use Rattle.al_rule.specs.Places.{Applied};
 ghost use Rattle.al_rule.specs.Rules.{Stuck, IsLocal};
 ghost use Rattle.al_rule.specs.Driven.{Drove, reached};
-ghost use Rattle.al_rule.specs.Walks.{MatchesAt, Records, StepsTo};
+ghost use Rattle.al_rule.specs.Walks.{MatchesAt, Records, StepsTo, WalkedOnce, WalkedOut};
 
 use crate::find::{Found, find};
 use crate::place::apply_at;
@@ -62,7 +62,7 @@ fn step<S: RuleSet>(
 ) -> Result<(), NoMemory>
     requires rule { found.now.rule < (S.rules_of set.now).count }
     requires place { MatchesAt ((S.rules_of set.now).rewrites found.now.rule) found.now.place.children plan.old }
-    ensures ok { OnOk result (StepsTo (S.rules_of set.now) found.now.place.children plan.old t.old plan.new t.new) }
+    ensures ok { OnOk result (StepsTo (S.rules_of set.now) found.now.rule found.now.place.children plan.old t.old plan.new t.new) }
     ensures same_plan { OnErr result (plan.new ≡ plan.old) }
     ensures same_trace { OnErr result (t.new.steps ≡ t.old.steps) }
 {
@@ -82,6 +82,8 @@ fn walk<S: RuleSet>(
     requires { Fit plan.old }
     ensures driven { Drove (S.rules_of set.now) plan.old t.old t.new plan.new }
     ensures fit { Fit plan.new }
+    ensures walked { IfOk result (λ applied. WalkedOnce (S.rules_of set.now) plan.old t.old t.new plan.new) }
+    ensures untraced { IfOk result (λ applied. applied ≡ false → t.new.steps ≡ t.old.steps) }
     ensures stuck { IsLocal (S.rules_of set.now) → IfOk result (λ applied. Stuck (S.rules_of set.now) plan.new) }
     ensures unapplied { IfOk result (λ applied. applied ≡ false → Stuck (S.rules_of set.now) plan.new) }
     ensures lighter { IfOk result (λ applied. applied ≡ true → S.weight set.now plan.new < S.weight set.now plan.old) }
@@ -107,6 +109,7 @@ pub fn drive_once<S: RuleSet>(
 ) -> Result<Plan, ApplyFault>
     requires { Fit p }
     ensures driven { Drove (S.rules_of set.now) p t.old t.new (reached result) }
+    ensures walked { IfOk result (λ q. WalkedOnce (S.rules_of set.now) p t.old t.new q) }
     ensures replaces { Replaces (reached result) p }
     ensures stuck { IsLocal (S.rules_of set.now) → IfOk result (λ q. Stuck (S.rules_of set.now) q) }
 {
@@ -126,6 +129,7 @@ pub fn drive_fixpoint<S: RuleSet>(
 ) -> Result<Plan, ApplyFault>
     requires { Fit p }
     ensures driven { Drove (S.rules_of set.now) p t.old t.new (reached result) }
+    ensures walked { IfOk result (λ q. WalkedOut (S.rules_of set.now) p t.old t.new q) }
     ensures replaces { Replaces (reached result) p }
     ensures stuck { IfOk result (λ q. Stuck (S.rules_of set.now) q) }
 {

@@ -6,7 +6,7 @@ use Rattle.al_rule.proofs.find.+find.Goals as goal
 
 pub find-returns-in-Some-first_rule : goal.find-returns-in-Some-first_rule
 find-returns-in-Some-first_rule g t c =
-    root_found (g.S.RuleSet.rules_of c.args.set.now) c.args.from.now c.new.result c.args.p.now c.in-Some-first_rule.rule c.new.ensures c.in-Some-first_rule.ensures.0 c.in-Some-first_rule.ensures.1 c.in-Some-first_rule.ensures.2
+    root_found (g.S.RuleSet.rules_of c.args.set.now) c.args.from.now c.new.result c.args.p.now c.in-Some-first_rule.rule (none_of c.args.from.now c.in-None.ensures.cases) c.new.ensures c.in-Some-first_rule.ensures.0 c.in-Some-first_rule.ensures.1 c.in-Some-first_rule.ensures.2
 
 pub find-returns-in-None-first_rule : goal.find-returns-in-None-first_rule
 find-returns-in-None-first_rule g t c =
