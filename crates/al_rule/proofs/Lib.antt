@@ -15,6 +15,7 @@ pub mod Operators
 pub mod PlaceLaws
 pub mod WalkLaws
 pub mod DriveLaws
+pub mod WalkCases
 pub mod SelectRules
 pub mod CountLaws
 pub mod EntryLaws

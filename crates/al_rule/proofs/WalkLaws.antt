@@ -29,11 +29,11 @@ part_above i place p z x h e = ap (λ (o : Option Plan). and_then o (plan_at pla
 pub one_input : (p : Plan) (i : ℕ) (x y : Plan) → input p i ≡ Some x → input p i ≡ Some y → x ≡ y
 one_input p i x y e h = cc
 
-at_root : (p : Plan) → plan_at [] p ≡ Some p
+pub at_root : (p : Plan) → plan_at [] p ≡ Some p
 unfolding plan_at
 at_root p = refl
 
-matches_below : (R : Rewriting) (i : ℕ) (place : List ℕ) (p x : Plan) → input p i ≡ Some x → MatchesAt R (i ∷ place) p → MatchesAt R place x
+pub matches_below : (R : Rewriting) (i : ℕ) (place : List ℕ) (p x : Plan) → input p i ≡ Some x → MatchesAt R (i ∷ place) p → MatchesAt R place x
 matches_below R i place p x here (y, at_place, m) =
     let (z, there, behind) = part_below i place p y at_place in
     (y, subst (λ (q : Plan). plan_at place q ≡ Some y) (one_input p i z x there here) behind, m)
@@ -121,11 +121,11 @@ pub before_root : (place : List ℕ) → IsBefore place [] → ⊥
 unfolding IsBefore
 before_root place h = h
 
-root_before_parts : (i : ℕ) (place : List ℕ) → IsBefore [] (i ∷ place)
+pub root_before_parts : (i : ℕ) (place : List ℕ) → IsBefore [] (i ∷ place)
 unfolding IsBefore
 root_before_parts i place = tt
 
-left_is_before : (i j : ℕ) (place other : List ℕ) → i < j → IsBefore (i ∷ place) (j ∷ other)
+pub left_is_before : (i j : ℕ) (place other : List ℕ) → i < j → IsBefore (i ∷ place) (j ∷ other)
 unfolding IsBefore
 left_is_before i j place other h = inl h
 
@@ -137,7 +137,7 @@ parted : (i j : ℕ) (place other : List ℕ) → IsBefore (i ∷ place) (j ∷ 
 unfolding IsBefore
 parted i j place other h = h
 
-before_below : (i : ℕ) (place other : List ℕ) → IsBefore (i ∷ place) (i ∷ other) → IsBefore place other
+pub before_below : (i : ℕ) (place other : List ℕ) → IsBefore (i ∷ place) (i ∷ other) → IsBefore place other
 before_below i place other h = below_at (parted i i place other h) where
   below_at : (i < i) ⊎ ((i ≡ i) × IsBefore place other) → IsBefore place other
   below_at (inl less) = absurd (omega arith)
@@ -147,7 +147,7 @@ before_or_below : (i : ℕ) (a b : List ℕ) → IsBefore a b ⊎ (IsBefore a b 
 before_or_below i a b (inl h) = inl (below_is_before i a b h)
 before_or_below i a b (inr f) = inr (λ h. f (before_below i a b h))
 
-not_behind : (i j : ℕ) (a b : List ℕ) → j < i → IsBefore (i ∷ a) (j ∷ b) → ⊥
+pub not_behind : (i j : ℕ) (a b : List ℕ) → j < i → IsBefore (i ∷ a) (j ∷ b) → ⊥
 not_behind i j a b less h = behind_at (parted i j a b h) where
   behind_at : (i < j) ⊎ ((i ≡ j) × IsBefore a b) → ⊥
   behind_at (inl other) = omega arith
@@ -247,7 +247,7 @@ none_in_part : (rules : Rules) (i : ℕ) (from other : List ℕ) (p : Plan) (k :
 none_in_part rules i from other p k low none g (x, e, m) = let (z, iz, ez) = part_below i other p x e in none z iz k low other g (x, ez, m)
 
 -- there is no input past the second
-none_past_parts : (R : Rewriting) (i : ℕ) (other : List ℕ) (p : Plan) → MatchesAt R (suc (suc i) ∷ other) p → ⊥
+pub none_past_parts : (R : Rewriting) (i : ℕ) (other : List ℕ) (p : Plan) → MatchesAt R (suc (suc i) ∷ other) p → ⊥
 none_past_parts R i other p (x, e, m) =
     let (z, iz, ez) = part_below (suc (suc i)) other p x e in
     let none : input p (suc (suc i)) ≡ None = no_third p i in

@@ -6,5 +6,6 @@ pub mod Pairs
 pub mod Laws
 pub mod Reads
 pub mod Walks
+pub mod WalkCases
 pub mod Counts
 pub mod Entries
