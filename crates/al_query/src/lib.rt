@@ -13,6 +13,3 @@ pub use command::plain_command;
 pub use compiler::{CompileFault, Compiled, compile};
 pub use data::{MAX_ALL_DATA, MAX_DATA};
 pub use status::{DataRefused, Status};
-
-#[cfg(test)]
-mod tests;

@@ -1,4 +1,4 @@
-use super::{Case, EMP, expect, serve};
+use crate::case::{Case, EMP, expect, serve};
 use std::alloc::Global;
 use std::process::Abort;
 use std::test::Fail;

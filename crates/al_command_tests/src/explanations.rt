@@ -1,5 +1,5 @@
-use super::queries::file_of;
-use super::{Case, expect, serve};
+use crate::case::{Case, expect, serve};
+use crate::queries::file_of;
 use std::alloc::Global;
 use std::process::Abort;
 use std::test::Fail;

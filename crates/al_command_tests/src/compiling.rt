@@ -1,5 +1,5 @@
-use crate::{CompileFault, compile};
 use al_plan::{Refused, RefusedKind};
+use al_query::{CompileFault, compile};
 use std::test::Fail;
 
 const ORDER: &[u8] =

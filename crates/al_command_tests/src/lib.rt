@@ -1,0 +1,15 @@
+//! Tests of the commands, from words and files to what is written, and of compiling.
+#![tactic(auto)]
+
+#[cfg(test)]
+mod case;
+#[cfg(test)]
+mod commands;
+#[cfg(test)]
+mod compiling;
+#[cfg(test)]
+mod explanations;
+#[cfg(test)]
+mod plans;
+#[cfg(test)]
+mod queries;
