@@ -1,6 +1,6 @@
 //! The optimiser.
 
-ghost use Rattle.std.specs.Prelude.{◌≡◌, IfOk};
+ghost use Rattle.std.specs.Prelude.{◌≡◌, IfOk, true, false};
 ghost use Rattle.al_plan.specs.Refines.{Fit, Refines};
 ghost use Rattle.al_rule.specs.Driven.{Drove};
 ghost use Rattle.al_rule.specs.Rules.{Stuck};
@@ -20,7 +20,7 @@ use std::alloc::Global;
 /// Drives a set until none of its rules matches.
 fn exhaust<S: RuleSet>(alloc: Global, set: &S, p: Plan, t: &mut Trace) -> Result<Plan, NoMemory>
     requires { Fit p }
-    ensures { IfOk result (λ q. Reaches (S.rules_of set.now) p t.old t.new q) }
+    ensures { IfOk result (λ q. Reaches false (S.rules_of set.now) p t.old t.new q) }
 {
     match drive_fixpoint(alloc, set, p, t) {
         Ok(q) => Ok(q),
@@ -31,7 +31,7 @@ fn exhaust<S: RuleSet>(alloc: Global, set: &S, p: Plan, t: &mut Trace) -> Result
 /// Takes conditions apart: one walk is enough, since no walk makes a new conjunction.
 fn split(alloc: Global, p: Plan, t: &mut Trace) -> Result<Plan, NoMemory>
     requires { Fit p }
-    ensures { IfOk result (λ q. Reaches split_rules p t.old t.new q) }
+    ensures { IfOk result (λ q. Reaches true split_rules p t.old t.new q) }
 {
     split_laws();
     match drive_once(alloc, &SplitSet, p, t) {

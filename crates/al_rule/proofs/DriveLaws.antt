@@ -106,6 +106,10 @@ begins_walk rules p t from is = ([], sym (append-nil t.steps), walks_nothing rul
 
 -- ---- walks one after the other
 
+pub same_gain : (xs ys zs : List TraceStep) → xs ++ ys ≡ xs ++ zs → ys ≡ zs
+same_gain [] ys zs e = e
+same_gain (x ∷ xs) ys zs e = same_gain xs ys zs cc
+
 none_gained : (xs ys : List TraceStep) → xs ++ ys ≡ xs → ys ≡ []
 none_gained [] ys e = e
 none_gained (x ∷ xs) ys e = none_gained xs ys cc

@@ -3,6 +3,7 @@
 ghost use Rattle.std.specs.Prelude.{◌≡◌, ◌<◌, ℕ, List, IfOk, IfErr};
 ghost use Rattle.al_plan.specs.declared.plan.Plan.{Plan};
 ghost use Rattle.al_plan.specs.Refines.{Fit, Replaces};
+ghost use Rattle.al_rule.specs.declared.names.RuleName.{RuleName};
 ghost use Rattle.al_rule.specs.Places.{Rewriting};
 ghost use Rattle.al_rule.specs.Rules.{Rules, Matches, Decides, HandsBack, IsLawful};
 
@@ -22,7 +23,11 @@ pub trait Rule {
     /// The plan on the left may be rewritten to the one on the right.
     ghost rewrites: { Self → Rewriting };
 
-    fn name(&self) -> RuleName;
+    /// The name by which traces call it.
+    ghost called: { Self → RuleName };
+
+    fn name(&self) -> RuleName
+        ensures { result ≡ called self.now };
 
     /// Whether the plan is one that the rule rewrites.
     fn matches(&self, p: &Plan) -> bool

@@ -1,5 +1,6 @@
 //! The rules that drop a `distinct`.
 
+ghost use Rattle.al_rule.specs.declared.names.RuleName.TheVariants as called;
 ghost use Rattle.std.specs.Prelude.{◌≡◌, IfOk, MatchOption};
 ghost use Rattle.al_rules_group.specs.GroupRules as meaning;
 ghost use Rattle.al_rules_group.specs.Outcomes.{IsOther, Rewritten};
@@ -44,6 +45,8 @@ pub struct DistinctOverDistinct;
 impl Rule for DistinctOverDistinct {
     ghost rewrites = { λ _. meaning.DistinctOverDistinct };
 
+    ghost called = { λ _. called.DistinctOverDistinct };
+
     ghost sound = { λ _. sound.distinct_over_distinct };
 
     fn name(&self) -> RuleName {
@@ -85,6 +88,8 @@ pub struct DistinctOverGroup;
 
 impl Rule for DistinctOverGroup {
     ghost rewrites = { λ _. meaning.DistinctOverGroup };
+
+    ghost called = { λ _. called.DistinctOverGroup };
 
     ghost sound = { λ _. sound.distinct_over_group };
 
@@ -133,6 +138,8 @@ pub struct DistinctOverAggregate;
 
 impl Rule for DistinctOverAggregate {
     ghost rewrites = { λ _. meaning.DistinctOverAggregate };
+
+    ghost called = { λ _. called.DistinctOverAggregate };
 
     ghost sound = { λ _. sound.distinct_over_aggregate };
 

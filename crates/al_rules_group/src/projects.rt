@@ -1,5 +1,6 @@
 //! The rules that drop a `project`.
 
+ghost use Rattle.al_rule.specs.declared.names.RuleName.TheVariants as called;
 ghost use Rattle.std.specs.Prelude.{◌≡◌, false, IfOk, MatchOption};
 ghost use Rattle.al_plan.specs.declared.plan.Plan.{Plan};
 ghost use Rattle.al_rules_group.specs.GroupRules as meaning;
@@ -43,6 +44,8 @@ pub struct AggregateOverProject;
 
 impl Rule for AggregateOverProject {
     ghost rewrites = { λ _. meaning.AggregateOverProject };
+
+    ghost called = { λ _. called.AggregateOverProject };
 
     ghost sound = { λ _. aggregates.aggregate_over_project };
 
@@ -101,6 +104,8 @@ pub struct GroupOverProject;
 
 impl Rule for GroupOverProject {
     ghost rewrites = { λ _. meaning.GroupOverProject };
+
+    ghost called = { λ _. called.GroupOverProject };
 
     ghost sound = { λ _. groups.group_over_project };
 

@@ -33,11 +33,11 @@ impl RuleSet for GroupSet {
 
     fn rule(&self, k: usize) -> RuleName {
         match k {
-            0 => RuleName::DistinctOverDistinct,
-            1 => RuleName::DistinctOverGroup,
-            2 => RuleName::DistinctOverAggregate,
-            3 => RuleName::AggregateOverProject,
-            _ => RuleName::GroupOverProject,
+            0 => DistinctOverDistinct.name(),
+            1 => DistinctOverGroup.name(),
+            2 => DistinctOverAggregate.name(),
+            3 => AggregateOverProject.name(),
+            _ => GroupOverProject.name(),
         }
     }
 

@@ -1,5 +1,6 @@
 //! The rule that drops a conjunct that says nothing.
 
+ghost use Rattle.al_rule.specs.declared.names.RuleName.TheVariants as called;
 ghost use Rattle.std.specs.Prelude.{◌≤◌, IfOk, MatchOption, length};
 ghost use Rattle.al_plan.specs.declared.expr.Expr.{Expr};
 ghost use Rattle.al_conj.specs.Conj.{Splits, conj, is_literal_true};
@@ -64,6 +65,8 @@ fn dropped(alloc: Global, p: &Plan) -> Result<Option<Plan>, NoMemory>
 
 impl Rule for DropTrue {
     ghost rewrites = { λ self. meaning.drop_true };
+
+    ghost called = { λ _. called.DropTrue };
 
     fn name(&self) -> RuleName {
         RuleName::DropTrue

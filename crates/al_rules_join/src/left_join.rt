@@ -1,5 +1,6 @@
 //! The rule that makes a left join a join.
 
+ghost use Rattle.al_rule.specs.declared.names.RuleName.TheVariants as called;
 ghost use Rattle.std.specs.Prelude.{◌≡◌, true, IfOk, MatchOption};
 ghost use Rattle.al_plan.specs.declared.plan.Plan.TheVariants as P;
 ghost use Rattle.al_rules_join.specs.JoinRules as meaning;
@@ -46,6 +47,8 @@ fn inner_join(alloc: Global, p: &Plan) -> Result<Option<Plan>, NoMemory>
 
 impl Rule for LeftJoinToJoin {
     ghost rewrites = { λ self. meaning.left_join_to_join };
+
+    ghost called = { λ _. called.LeftJoinToJoin };
 
     fn name(&self) -> RuleName {
         RuleName::LeftJoinToJoin

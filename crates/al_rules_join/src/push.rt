@@ -1,5 +1,6 @@
 //! The rules that ask a conjunct of one input where that input is read.
 
+ghost use Rattle.al_rule.specs.declared.names.RuleName.TheVariants as called;
 ghost use Rattle.std.specs.Prelude.{◌≡◌, IfOk};
 ghost use Rattle.al_rules_join.specs.JoinRules as meaning;
 ghost use Rattle.al_rules_join.specs.JoinRules.{Rewritten};
@@ -35,6 +36,8 @@ fn pushed_left(alloc: Global, p: &Plan) -> Result<Option<Plan>, NoMemory>
 
 impl Rule for JoinCondLeft {
     ghost rewrites = { λ self. meaning.join_cond_left };
+
+    ghost called = { λ _. called.JoinCondLeft };
 
     fn name(&self) -> RuleName {
         RuleName::JoinCondLeft
@@ -79,6 +82,8 @@ fn pushed_right(alloc: Global, p: &Plan) -> Result<Option<Plan>, NoMemory>
 impl Rule for JoinCondRight {
     ghost rewrites = { λ self. meaning.join_cond_right };
 
+    ghost called = { λ _. called.JoinCondRight };
+
     fn name(&self) -> RuleName {
         RuleName::JoinCondRight
     }
@@ -122,6 +127,8 @@ fn pushed_below_left_join(alloc: Global, p: &Plan) -> Result<Option<Plan>, NoMem
 
 impl Rule for LeftJoinCondRight {
     ghost rewrites = { λ self. meaning.left_join_cond_right };
+
+    ghost called = { λ _. called.LeftJoinCondRight };
 
     fn name(&self) -> RuleName {
         RuleName::LeftJoinCondRight

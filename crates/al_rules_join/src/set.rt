@@ -33,11 +33,11 @@ impl RuleSet for JoinSet {
     #[tactic(auto, using(crate::proofs::SetLaws::last_name))]
     fn rule(&self, k: usize) -> RuleName {
         match k {
-            0 => RuleName::LeftJoinToJoin,
-            1 => RuleName::DropTrue,
-            2 => RuleName::JoinCondLeft,
-            3 => RuleName::JoinCondRight,
-            _ => RuleName::LeftJoinCondRight,
+            0 => LeftJoinToJoin.name(),
+            1 => DropTrue.name(),
+            2 => JoinCondLeft.name(),
+            3 => JoinCondRight.name(),
+            _ => LeftJoinCondRight.name(),
         }
     }
 

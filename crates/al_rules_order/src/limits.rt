@@ -1,5 +1,6 @@
 //! The rules that move limits down and join them.
 
+ghost use Rattle.al_rule.specs.declared.names.RuleName.TheVariants as called;
 ghost use Rattle.std.specs.Prelude.{◌≡◌, ◌≤◌, ◌+◌, ◌-◌, nat_le, min, ℕ, List, Some, IfOk, MatchOption};
 ghost use Rattle.al_plan.specs.declared.expr.Var.{Var};
 ghost use Rattle.al_plan.specs.declared.expr.Expr.{Expr};
@@ -100,6 +101,8 @@ pub struct LimitOverLimit;
 impl Rule for LimitOverLimit {
     ghost rewrites = { λ _. meaning.LimitOverLimit };
 
+    ghost called = { λ _. called.LimitOverLimit };
+
     ghost sound = { λ _. shown.limit_over_limit };
 
     fn name(&self) -> RuleName {
@@ -171,6 +174,8 @@ pub struct LimitBelowProject;
 impl Rule for LimitBelowProject {
     ghost rewrites = { λ _. meaning.LimitBelowProject };
 
+    ghost called = { λ _. called.LimitBelowProject };
+
     ghost sound = { λ _. shown.limit_below_project };
 
     fn name(&self) -> RuleName {
@@ -225,6 +230,8 @@ pub struct LimitBelowAssign;
 
 impl Rule for LimitBelowAssign {
     ghost rewrites = { λ _. meaning.LimitBelowAssign };
+
+    ghost called = { λ _. called.LimitBelowAssign };
 
     ghost sound = { λ _. shown.limit_below_assign };
 

@@ -1,5 +1,6 @@
 //! The rules that drop orders.
 
+ghost use Rattle.al_rule.specs.declared.names.RuleName.TheVariants as called;
 ghost use Rattle.std.specs.Prelude.{◌≡◌, ℕ, true, IfOk, MatchOption};
 ghost use Rattle.al_plan.specs.declared.plan.Plan.{Plan};
 ghost use Rattle.al_rules_order.specs.OrderRules as meaning;
@@ -100,6 +101,8 @@ pub struct DropOrder;
 impl Rule for DropOrder {
     ghost rewrites = { λ _. meaning.DropOrder };
 
+    ghost called = { λ _. called.DropOrder };
+
     ghost sound = { λ _. shown.drop_order };
 
     fn name(&self) -> RuleName {
@@ -145,6 +148,8 @@ pub struct OrderOverOrder;
 
 impl Rule for OrderOverOrder {
     ghost rewrites = { λ _. meaning.OrderOverOrder };
+
+    ghost called = { λ _. called.OrderOverOrder };
 
     ghost sound = { λ _. shown.order_over_order };
 

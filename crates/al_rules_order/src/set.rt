@@ -33,11 +33,11 @@ impl RuleSet for OrderSet {
 
     fn rule(&self, k: usize) -> RuleName {
         match k {
-            0 => RuleName::DropOrder,
-            1 => RuleName::OrderOverOrder,
-            2 => RuleName::LimitOverLimit,
-            3 => RuleName::LimitBelowProject,
-            _ => RuleName::LimitBelowAssign,
+            0 => DropOrder.name(),
+            1 => OrderOverOrder.name(),
+            2 => LimitOverLimit.name(),
+            3 => LimitBelowProject.name(),
+            _ => LimitBelowAssign.name(),
         }
     }
 

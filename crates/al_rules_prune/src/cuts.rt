@@ -1,5 +1,6 @@
 //! Rules that cut the input of an operator to what the operator uses.
 
+ghost use Rattle.al_rule.specs.declared.names.RuleName.TheVariants as called;
 ghost use Rattle.std.specs.Prelude.{◌≡◌, ◌++◌, IfOk, MatchOption, map};
 ghost use Rattle.al_plan.specs.declared.plan.Plan.TheVariants as P;
 ghost use Rattle.al_rules_prune.specs.Prunes as meaning;
@@ -53,6 +54,8 @@ fn cut_result(alloc: Global, p: &Plan) -> Result<Option<Plan>, NoMemory>
 
 impl Rule for ResultProject {
     ghost rewrites = { λ _. meaning.ResultProject };
+
+    ghost called = { λ _. called.ResultProject };
 
     ghost sound = { λ _. sound.result_project };
 
@@ -131,6 +134,8 @@ fn cut_select(alloc: Global, p: &Plan) -> Result<Option<Plan>, NoMemory>
 
 impl Rule for ProjectBelowSelect {
     ghost rewrites = { λ _. meaning.ProjectBelowSelect };
+
+    ghost called = { λ _. called.ProjectBelowSelect };
 
     ghost sound = { λ _. sound.project_below_select };
 
@@ -219,6 +224,8 @@ fn cut_order(alloc: Global, p: &Plan) -> Result<Option<Plan>, NoMemory>
 impl Rule for ProjectBelowOrder {
     ghost rewrites = { λ _. meaning.ProjectBelowOrder };
 
+    ghost called = { λ _. called.ProjectBelowOrder };
+
     ghost sound = { λ _. sound.project_below_order };
 
     fn name(&self) -> RuleName {
@@ -287,6 +294,8 @@ fn cut_aggregate(alloc: Global, p: &Plan) -> Result<Option<Plan>, NoMemory>
 
 impl Rule for AggregateProjectInput {
     ghost rewrites = { λ _. meaning.AggregateProjectInput };
+
+    ghost called = { λ _. called.AggregateProjectInput };
 
     ghost sound = { λ _. sound.aggregate_project_input };
 

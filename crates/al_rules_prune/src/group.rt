@@ -1,5 +1,6 @@
 //! The rule that cuts the input of a group.
 
+ghost use Rattle.al_rule.specs.declared.names.RuleName.TheVariants as called;
 ghost use Rattle.std.specs.Prelude.{◌≡◌, ◌++◌, false, IfOk, MatchOption, map, nat_eq};
 ghost use Rattle.std.specs.List.{list_any};
 ghost use Rattle.std.specs.Cmp.Lexicographic.{pointwise};
@@ -218,6 +219,8 @@ fn cut_group(alloc: Global, p: &Plan) -> Result<Option<Plan>, NoMemory>
 
 impl Rule for GroupProjectInput {
     ghost rewrites = { λ _. meaning.GroupProjectInput };
+
+    ghost called = { λ _. called.GroupProjectInput };
 
     ghost sound = { λ _. sound.group_project_input };
 

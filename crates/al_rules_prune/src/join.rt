@@ -1,5 +1,6 @@
 //! The rule that cuts the inputs of joins below a project.
 
+ghost use Rattle.al_rule.specs.declared.names.RuleName.TheVariants as called;
 ghost use Rattle.std.specs.Prelude.{◌≡◌, ◌++◌, IfOk, MatchOption};
 ghost use Rattle.al_plan.specs.declared.plan.Plan.TheVariants as P;
 ghost use Rattle.al_rules_prune.specs.Prunes as meaning;
@@ -137,6 +138,8 @@ fn cut_join(alloc: Global, p: &Plan) -> Result<Option<Plan>, NoMemory>
 
 impl Rule for ProjectBelowJoin {
     ghost rewrites = { λ _. meaning.ProjectBelowJoin };
+
+    ghost called = { λ _. called.ProjectBelowJoin };
 
     ghost sound = { λ _. sound.project_below_join };
 

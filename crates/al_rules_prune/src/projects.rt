@@ -1,5 +1,6 @@
 //! Rules that drop projects, and bindings that nobody uses.
 
+ghost use Rattle.al_rule.specs.declared.names.RuleName.TheVariants as called;
 ghost use Rattle.std.specs.Prelude.{◌≡◌, [], false, IfOk, List, MatchOption, filter, map};
 ghost use Rattle.al_plan.specs.declared.plan.Plan.TheVariants as P;
 ghost use Rattle.al_plan.specs.Allows.{is_among, live};
@@ -52,6 +53,8 @@ fn one_project(alloc: Global, p: &Plan) -> Result<Option<Plan>, NoMemory>
 
 impl Rule for ProjectOverProject {
     ghost rewrites = { λ _. meaning.ProjectOverProject };
+
+    ghost called = { λ _. called.ProjectOverProject };
 
     ghost sound = { λ _. sound.project_over_project };
 
@@ -115,6 +118,8 @@ fn no_project(alloc: Global, p: &Plan) -> Result<Option<Plan>, NoMemory>
 
 impl Rule for ProjectAll {
     ghost rewrites = { λ _. meaning.ProjectAll };
+
+    ghost called = { λ _. called.ProjectAll };
 
     ghost sound = { λ _. sound.project_all };
 
@@ -217,6 +222,8 @@ fn fewer_bindings(alloc: Global, p: &Plan) -> Result<Option<Plan>, NoMemory>
 
 impl Rule for AssignUnderProject {
     ghost rewrites = { λ _. meaning.AssignUnderProject };
+
+    ghost called = { λ _. called.AssignUnderProject };
 
     ghost sound = { λ _. sound.assign_under_project };
 

@@ -35,15 +35,15 @@ impl RuleSet for PruneSet {
 
     fn rule(&self, k: usize) -> RuleName {
         match k {
-            0 => RuleName::ResultProject,
-            1 => RuleName::ProjectOverProject,
-            2 => RuleName::ProjectAll,
-            3 => RuleName::AssignUnderProject,
-            4 => RuleName::ProjectBelowSelect,
-            5 => RuleName::ProjectBelowOrder,
-            6 => RuleName::ProjectBelowJoin,
-            7 => RuleName::GroupProjectInput,
-            _ => RuleName::AggregateProjectInput,
+            0 => ResultProject.name(),
+            1 => ProjectOverProject.name(),
+            2 => ProjectAll.name(),
+            3 => AssignUnderProject.name(),
+            4 => ProjectBelowSelect.name(),
+            5 => ProjectBelowOrder.name(),
+            6 => ProjectBelowJoin.name(),
+            7 => GroupProjectInput.name(),
+            _ => AggregateProjectInput.name(),
         }
     }
 

@@ -1,5 +1,6 @@
 //! Rules that move a select below the operator under it.
 
+ghost use Rattle.al_rule.specs.declared.names.RuleName.TheVariants as called;
 ghost use Rattle.al_rules_select.specs.Selects as meaning;
 ghost use Rattle.al_rules_select.specs.Sound as sound;
 
@@ -14,6 +15,8 @@ pub struct SelectBelowAssign;
 
 impl Rule for SelectBelowAssign {
     ghost rewrites = { λ _. meaning.SelectBelowAssign };
+
+    ghost called = { λ _. called.SelectBelowAssign };
 
     ghost sound = { λ _. sound.below_assign };
 
@@ -44,6 +47,8 @@ pub struct SelectBelowProject;
 impl Rule for SelectBelowProject {
     ghost rewrites = { λ _. meaning.SelectBelowProject };
 
+    ghost called = { λ _. called.SelectBelowProject };
+
     ghost sound = { λ _. sound.below_project };
 
     fn name(&self) -> RuleName {
@@ -72,6 +77,8 @@ pub struct SelectBelowUnnest;
 
 impl Rule for SelectBelowUnnest {
     ghost rewrites = { λ _. meaning.SelectBelowUnnest };
+
+    ghost called = { λ _. called.SelectBelowUnnest };
 
     ghost sound = { λ _. sound.below_unnest };
 
@@ -102,6 +109,8 @@ pub struct SelectBelowSubplan;
 impl Rule for SelectBelowSubplan {
     ghost rewrites = { λ _. meaning.SelectBelowSubplan };
 
+    ghost called = { λ _. called.SelectBelowSubplan };
+
     ghost sound = { λ _. sound.below_subplan };
 
     fn name(&self) -> RuleName {
@@ -130,6 +139,8 @@ pub struct SelectBelowOrder;
 
 impl Rule for SelectBelowOrder {
     ghost rewrites = { λ _. meaning.SelectBelowOrder };
+
+    ghost called = { λ _. called.SelectBelowOrder };
 
     ghost sound = { λ _. sound.below_order };
 
@@ -160,6 +171,8 @@ pub struct SelectBelowDistinct;
 impl Rule for SelectBelowDistinct {
     ghost rewrites = { λ _. meaning.SelectBelowDistinct };
 
+    ghost called = { λ _. called.SelectBelowDistinct };
+
     ghost sound = { λ _. sound.below_distinct };
 
     fn name(&self) -> RuleName {
@@ -188,6 +201,8 @@ pub struct SelectBelowJoinLeft;
 
 impl Rule for SelectBelowJoinLeft {
     ghost rewrites = { λ _. meaning.SelectBelowJoinLeft };
+
+    ghost called = { λ _. called.SelectBelowJoinLeft };
 
     ghost sound = { λ _. sound.below_join_left };
 
@@ -218,6 +233,8 @@ pub struct SelectBelowJoinRight;
 impl Rule for SelectBelowJoinRight {
     ghost rewrites = { λ _. meaning.SelectBelowJoinRight };
 
+    ghost called = { λ _. called.SelectBelowJoinRight };
+
     ghost sound = { λ _. sound.below_join_right };
 
     fn name(&self) -> RuleName {
@@ -246,6 +263,8 @@ pub struct SelectBelowLeftJoin;
 
 impl Rule for SelectBelowLeftJoin {
     ghost rewrites = { λ _. meaning.SelectBelowLeftJoin };
+
+    ghost called = { λ _. called.SelectBelowLeftJoin };
 
     ghost sound = { λ _. sound.below_left_join };
 

@@ -37,7 +37,7 @@ impl RuleSet for SplitSet {
     }
 
     fn rule(&self, _k: usize) -> RuleName {
-        RuleName::SplitAnd
+        SplitAnd.name()
     }
 
     fn matches(&self, _k: usize, p: &Plan) -> bool {
@@ -78,17 +78,17 @@ impl RuleSet for SelectSet {
 
     fn rule(&self, k: usize) -> RuleName {
         match k {
-            0 => RuleName::SelectTrue,
-            1 => RuleName::SelectBelowAssign,
-            2 => RuleName::SelectBelowProject,
-            3 => RuleName::SelectBelowUnnest,
-            4 => RuleName::SelectBelowSubplan,
-            5 => RuleName::SelectBelowOrder,
-            6 => RuleName::SelectBelowDistinct,
-            7 => RuleName::SelectBelowJoinLeft,
-            8 => RuleName::SelectBelowJoinRight,
-            9 => RuleName::SelectIntoJoin,
-            _ => RuleName::SelectBelowLeftJoin,
+            0 => SelectTrue.name(),
+            1 => SelectBelowAssign.name(),
+            2 => SelectBelowProject.name(),
+            3 => SelectBelowUnnest.name(),
+            4 => SelectBelowSubplan.name(),
+            5 => SelectBelowOrder.name(),
+            6 => SelectBelowDistinct.name(),
+            7 => SelectBelowJoinLeft.name(),
+            8 => SelectBelowJoinRight.name(),
+            9 => SelectIntoJoin.name(),
+            _ => SelectBelowLeftJoin.name(),
         }
     }
 

@@ -1,5 +1,6 @@
 //! Rules that take a select apart, drop it or make it a part of a join.
 
+ghost use Rattle.al_rule.specs.declared.names.RuleName.TheVariants as called;
 ghost use Rattle.std.specs.Prelude.{◌≡◌, true, IfOk};
 ghost use Rattle.al_value.specs.declared.value.Value.TheVariants as V;
 ghost use Rattle.al_plan.specs.declared.expr.Expr.{Expr};
@@ -59,6 +60,8 @@ pub struct SplitAnd;
 impl Rule for SplitAnd {
     ghost rewrites = { λ _. meaning.SplitAnd };
 
+    ghost called = { λ _. called.SplitAnd };
+
     ghost sound = { λ _. sound.split_and };
 
     fn name(&self) -> RuleName {
@@ -107,6 +110,8 @@ pub struct SelectTrue;
 
 impl Rule for SelectTrue {
     ghost rewrites = { λ _. meaning.SelectTrue };
+
+    ghost called = { λ _. called.SelectTrue };
 
     ghost sound = { λ _. sound.select_true };
 
@@ -161,6 +166,8 @@ pub struct SelectIntoJoin;
 
 impl Rule for SelectIntoJoin {
     ghost rewrites = { λ _. meaning.SelectIntoJoin };
+
+    ghost called = { λ _. called.SelectIntoJoin };
 
     ghost sound = { λ _. sound.into_join };
 

@@ -1,5 +1,5 @@
 use Rattle.al_rule.specs.declared.names.SetName.TheVariants as S
-use Rattle.al_opt.specs.Optimised.{rules_of}
+use Rattle.al_opt.specs.Optimised.{is_once, rules_of}
 use Rattle.al_opt.proofs.OptimisedLaws.{Optimised, none_left, one_more, optimised}
 use Rattle.al_opt.proofs.optimiser.optimise.Goals.{In_ok-q-8}
 use Rattle.al_opt.proofs.optimiser.optimise.Goals as goal
@@ -10,14 +10,14 @@ whole c =
     let t = c.exhaust-6.new.t in
     let fit = c.in_ok-q-8.ensures.replaces.refines.fit in
     optimised c.args.p.now c.in_ok-q.q q c.new-trace.result t c.in_ok-q.ensures c.new-trace.ensures
-    (one_more rules_of S.Split _ c.in_ok-q.q c.in_ok-q-2.q q c.new-trace.result c.split.new.t t c.in_ok-q-2.ensures
-    (one_more rules_of S.Select _ c.in_ok-q-2.q c.in_ok-q-3.q q c.split.new.t c.exhaust.new.t t c.in_ok-q-3.ensures
-    (one_more rules_of S.Join _ c.in_ok-q-3.q c.in_ok-q-4.q q c.exhaust.new.t c.exhaust-2.new.t t c.in_ok-q-4.ensures
-    (one_more rules_of S.Select _ c.in_ok-q-4.q c.in_ok-q-5.q q c.exhaust-2.new.t c.exhaust-3.new.t t c.in_ok-q-5.ensures
-    (one_more rules_of S.Order _ c.in_ok-q-5.q c.in_ok-q-6.q q c.exhaust-3.new.t c.exhaust-4.new.t t c.in_ok-q-6.ensures
-    (one_more rules_of S.Group _ c.in_ok-q-6.q c.in_ok-q-7.q q c.exhaust-4.new.t c.exhaust-5.new.t t c.in_ok-q-7.ensures
-    (one_more rules_of S.Prune _ c.in_ok-q-7.q q q c.exhaust-5.new.t t t c.in_ok-q-8.ensures
-    (none_left rules_of q t fit))))))))
+    (one_more rules_of is_once S.Split _ c.in_ok-q.q c.in_ok-q-2.q q c.new-trace.result c.split.new.t t c.in_ok-q-2.ensures
+    (one_more rules_of is_once S.Select _ c.in_ok-q-2.q c.in_ok-q-3.q q c.split.new.t c.exhaust.new.t t c.in_ok-q-3.ensures
+    (one_more rules_of is_once S.Join _ c.in_ok-q-3.q c.in_ok-q-4.q q c.exhaust.new.t c.exhaust-2.new.t t c.in_ok-q-4.ensures
+    (one_more rules_of is_once S.Select _ c.in_ok-q-4.q c.in_ok-q-5.q q c.exhaust-2.new.t c.exhaust-3.new.t t c.in_ok-q-5.ensures
+    (one_more rules_of is_once S.Order _ c.in_ok-q-5.q c.in_ok-q-6.q q c.exhaust-3.new.t c.exhaust-4.new.t t c.in_ok-q-6.ensures
+    (one_more rules_of is_once S.Group _ c.in_ok-q-6.q c.in_ok-q-7.q q c.exhaust-4.new.t c.exhaust-5.new.t t c.in_ok-q-7.ensures
+    (one_more rules_of is_once S.Prune _ c.in_ok-q-7.q q q c.exhaust-5.new.t t t c.in_ok-q-8.ensures
+    (none_left rules_of is_once q t fit))))))))
 
 pub returns-clause-legal : goal.returns-clause-legal
 returns-clause-legal c = (whole c).legal
