@@ -51,13 +51,7 @@ pub drove_on : (rules : Rules) (p q r : Plan) (before mid now : Trace) → Drove
 drove_on rules p q r before mid now (xs, x_is, hx) (ys, y_is, hy) =
     (xs ++ ys, y_is ∙ ap (λ zs. zs ++ ys) x_is ∙ append_assoc before.steps xs ys, steps_append rules xs ys p q r hx hy)
 
--- ---- the step that the code makes
-
-pub step_made : (rules : Rules) (k : ℕ) (place : List ℕ) (p q : Plan) (before now : Trace) → k < rules.count → Applied (rules.rewrites k) place p q → Records rules k place before now → StepsTo rules place p before q now
-step_made rules k place p q before now low h (s, is, set_is, rule_is, place_is) =
-    (s, is, place_is, (k, low, set_is, rule_is, subst (λ l. Applied (rules.rewrites k) l p q) (sym place_is) h))
-
--- ---- a walk under way: what was driven, and that nothing matches before its place
+-- ---- how far a walk has come
 
 pub record Walking (rules : Rules) (weight : Plan → ℕ) (start : Plan) (before : Trace) (from : List ℕ) (plan : Plan) (now : Trace) (applied : Bool) : Type 0 where
   pub driven : Drove rules start before now plan
