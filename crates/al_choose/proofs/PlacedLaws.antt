@@ -141,9 +141,6 @@ ascending_live vars (k ∷ keys) h = (h.0, ascending_live vars keys h.1)
 
 module _ (n : ℕ) (keys : List (Var × Var)) (inner : Plan) (q : Phys)
     (input : IsServed n (N.Keyed (old_of keys)) q) (olds : AreLive (phys_live q) (old_of keys)) (fits : IsInner inner (phys_live q)) (width : AtMost64 (phys_live q)) (sound : AllSound n q) where
-  sort : Phys
-  sort = Q.Sort (ascending keys) q
-
   sort_sound : AllSound n (Q.Sort (ascending keys) q)
   sort_sound =
       all_over n (Q.Sort (ascending keys) q) q (poperators-Sort (ascending keys) q)

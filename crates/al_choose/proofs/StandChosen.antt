@@ -285,10 +285,3 @@ pub all_alone : (n : ℕ) (p : Plan) → meets (parts_of (chosen n p) n) N.All n
 all_alone n p met =
     by_cases (nat_eq n 1) (λ one. one)
     (λ more. absurd (no (sym met ∙ more_meets n N.All (chosen n p) more ∙ (spreads n more p).once)))
-
--- no row of the chosen plan stands in two parts
-pub any_met : (n : ℕ) (p : Plan) → meets (parts_of (chosen n p) n) N.Any n ≡ true
-any_met n p =
-    by_cases (nat_eq n 1)
-    (λ one. ap (λ b. b || fits (parts_of (chosen n p) n) N.Any) one)
-    (λ more. more_meets n N.Any (chosen n p) more ∙ ap not (spreads n more p).once)

@@ -28,11 +28,11 @@ pub fn aggregate_over(
     made: &[(Var, AggCall)],
     input: Boxed<Phys>,
     partitions: u32,
-) -> Result<Phys, NoMemory>
+) -> Result<Boxed<Phys>, NoMemory>
     ensures { IfOk result (λ q. q ≡ Q.AggFinal made.now (spec.served partitions N.One (Q.AggPart made.now input))) }
 {
     let part = aggregate_part(alloc, made, input)?;
     let input = served(alloc, Need::One, part, partitions)?;
     let made = copy_aggregated(alloc, made)?;
-    Ok(Phys::AggFinal { made, input })
+    Boxed::new(alloc, Phys::AggFinal { made, input })
 }

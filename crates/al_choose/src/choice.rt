@@ -30,19 +30,19 @@ const TOO_MANY: u64 = 524_288;
 fn input_of(alloc: Global, p: &Boxed<Plan>, partitions: u32) -> Result<Boxed<Phys>, NoMemory>
     ensures { IfOk result (λ q. q ≡ chosen partitions p.now) }
 {
-    Boxed::new(alloc, plan_of(alloc, p.get(), partitions)?)
+    plan_of(alloc, p.get(), partitions)
 }
 
 /// What is chosen for a plan, however many operators it has.
 #[cycle(plan_of)]
 #[tactic(auto, using(crate::proofs::ChosenRules::plain_laws))]
-pub fn plan_of(alloc: Global, p: &Plan, partitions: u32) -> Result<Phys, NoMemory>
+pub fn plan_of(alloc: Global, p: &Plan, partitions: u32) -> Result<Boxed<Phys>, NoMemory>
     ensures { IfOk result (λ q. q ≡ chosen partitions p.now) }
 {
     match p {
         Plan::Scan { set, vars } => scan_of(alloc, set, vars.as_slice()),
-        Plan::Empty => Ok(Phys::One),
-        Plan::Nested => Ok(Phys::One),
+        Plan::Empty => Boxed::new(alloc, Phys::One),
+        Plan::Nested => Boxed::new(alloc, Phys::One),
         Plan::Assign { made, input } => {
             let input = input_of(alloc, input, partitions)?;
             assign_over(alloc, made.as_slice(), input)
@@ -138,7 +138,7 @@ pub fn choose(alloc: Global, p: &Plan, partitions: u32) -> Result<Phys, NoMemory
     ensures stands { IfOk result (λ ph. Stands p.now ph partitions) }
     ensures alone { IfOk result (λ ph. partitions ≡ 1 → AllByRecursion (λ q. moves q ≡ false) (operators ph)) }
 {
-    let ph = Boxed::new(alloc, plan_of(alloc, p, partitions)?)?;
+    let ph = plan_of(alloc, p, partitions)?;
     if room_left(ph.get(), TOO_MANY) == 0 {
         return Err(NoMemory);
     }

@@ -169,14 +169,19 @@ fn pre_group(
     keys: &[(Var, Var)],
     nested: &Plan,
     input: Boxed<Phys>,
-) -> Result<Phys, NoMemory>
+) -> Result<Boxed<Phys>, NoMemory>
     ensures { IfOk result (λ q. q ≡ Q.PreGroup keys.now nested.now input) }
 {
-    Ok(Phys::PreGroup {
-        keys: copy_keys(alloc, keys)?,
-        nested: nested.copy(alloc)?,
-        input,
-    })
+    let keys = copy_keys(alloc, keys)?;
+    let nested = nested.copy(alloc)?;
+    Boxed::new(
+        alloc,
+        Phys::PreGroup {
+            keys,
+            nested,
+            input,
+        },
+    )
 }
 
 fn hash_group(
@@ -184,14 +189,19 @@ fn hash_group(
     keys: &[(Var, Var)],
     nested: &Plan,
     input: Boxed<Phys>,
-) -> Result<Phys, NoMemory>
+) -> Result<Boxed<Phys>, NoMemory>
     ensures { IfOk result (λ q. q ≡ Q.HashGroup keys.now nested.now input) }
 {
-    Ok(Phys::HashGroup {
-        keys: copy_keys(alloc, keys)?,
-        nested: nested.copy(alloc)?,
-        input,
-    })
+    let keys = copy_keys(alloc, keys)?;
+    let nested = nested.copy(alloc)?;
+    Boxed::new(
+        alloc,
+        Phys::HashGroup {
+            keys,
+            nested,
+            input,
+        },
+    )
 }
 
 /// A group over an input whose parts have the keys apart.
@@ -201,7 +211,7 @@ fn group_apart(
     nested: &Plan,
     input: Boxed<Phys>,
     partitions: u32,
-) -> Result<Phys, NoMemory>
+) -> Result<Boxed<Phys>, NoMemory>
     ensures { IfOk result (λ q. q ≡ spec.group_over keys.now nested.now input) }
 {
     if is_in_order(alloc, keys, input.get(), partitions)? {
@@ -220,7 +230,7 @@ pub fn group_over(
     nested: &Plan,
     p: Boxed<Phys>,
     partitions: u32,
-) -> Result<Phys, NoMemory>
+) -> Result<Boxed<Phys>, NoMemory>
     ensures { IfOk result (λ q. q ≡ spec.group_over keys.now nested.now (spec.served partitions (N.Keyed (old_of keys.now)) p)) }
 {
     let olds = olds_of(alloc, keys)?;

@@ -8,6 +8,7 @@ ghost use Rattle.al_plan.specs.declared.expr.Expr.TheOpen as L;
 ghost use Rattle.al_phys.specs.Gives.{is_hash};
 ghost use Rattle.al_phys.specs.Operators as meaning;
 ghost use Rattle.al_phys.specs.Properties as property;
+ghost use Rattle.al_phys.specs.declared.phys.Phys.TheVariants as Q;
 ghost use Rattle.al_phys.specs.declared.property.Need.TheVariants as N;
 ghost use Rattle.al_choose.specs.Chosen as spec;
 
@@ -181,6 +182,27 @@ fn right_need(alloc: Global, keys: &[(Var, Var)]) -> Result<Need, NoMemory>
     Ok(Need::Exactly(olds_of(alloc, keys)?))
 }
 
+fn joined(
+    alloc: Global,
+    form: JoinForm,
+    cond: &Expr,
+    left: Boxed<Phys>,
+    right: Boxed<Phys>,
+) -> Result<Boxed<Phys>, NoMemory>
+    ensures { IfOk result (λ q. q ≡ Q.Join form cond.now left right) }
+{
+    let cond = cond.copy(alloc)?;
+    Boxed::new(
+        alloc,
+        Phys::Join {
+            form,
+            cond,
+            left,
+            right,
+        },
+    )
+}
+
 #[tactic(auto, using(crate::proofs::EquiKeys::join_made))]
 pub fn join_over(
     alloc: Global,
@@ -189,7 +211,7 @@ pub fn join_over(
     left: Boxed<Phys>,
     right: Boxed<Phys>,
     partitions: u32,
-) -> Result<Phys, NoMemory>
+) -> Result<Boxed<Phys>, NoMemory>
     ensures { IfOk result (λ q. q ≡ spec.join_over partitions outer cond.now left right) }
 {
     let keys = keys_between(alloc, left.get(), right.get(), cond)?;
@@ -197,10 +219,5 @@ pub fn join_over(
     let left = served(alloc, of_left, left, partitions)?;
     let of_right = right_need(alloc, keys.as_slice())?;
     let right = served(alloc, of_right, right, partitions)?;
-    Ok(Phys::Join {
-        form: join_form(outer, keys.as_slice()),
-        cond: cond.copy(alloc)?,
-        left,
-        right,
-    })
+    joined(alloc, join_form(outer, keys.as_slice()), cond, left, right)
 }

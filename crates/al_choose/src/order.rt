@@ -19,17 +19,20 @@ fn merge_over(
     keys: &[OrderKey],
     sorted: Boxed<Phys>,
     partitions: u32,
-) -> Result<Phys, NoMemory>
+) -> Result<Boxed<Phys>, NoMemory>
     ensures { IfOk result (λ q. q ≡ spec.merge_over partitions keys.now sorted) }
 {
     if is_met(alloc, sorted.get(), &Need::One, partitions)? {
-        return Ok(sorted.into_inner());
+        return Ok(sorted);
     }
     let keys = copy_order(alloc, keys)?;
-    Ok(Phys::Merge {
-        keys,
-        input: sorted,
-    })
+    Boxed::new(
+        alloc,
+        Phys::Merge {
+            keys,
+            input: sorted,
+        },
+    )
 }
 
 /// Each part sorted.
@@ -49,7 +52,7 @@ pub fn order_over(
     keys: &[OrderKey],
     input: Boxed<Phys>,
     partitions: u32,
-) -> Result<Phys, NoMemory>
+) -> Result<Boxed<Phys>, NoMemory>
     ensures { IfOk result (λ q. q ≡ spec.merge_over partitions keys.now (Q.Sort keys.now input)) }
 {
     let sorted = sort_over(alloc, keys, input)?;
@@ -68,11 +71,16 @@ fn needed_rows(n: u64, k: u64) -> Option<u64>
 }
 
 /// A limit over the rows of all parts.
-fn limit_gathered(alloc: Global, n: u64, k: u64, parts: Boxed<Phys>) -> Result<Phys, NoMemory>
+fn limit_gathered(
+    alloc: Global,
+    n: u64,
+    k: u64,
+    parts: Boxed<Phys>,
+) -> Result<Boxed<Phys>, NoMemory>
     ensures { IfOk result (λ q. q ≡ Q.Limit n k (Q.Gather parts)) }
 {
     let input = Boxed::new(alloc, Phys::Gather { input: parts })?;
-    Ok(Phys::Limit { n, k, input })
+    Boxed::new(alloc, Phys::Limit { n, k, input })
 }
 
 /// A limit over one part. Parts that are gathered for it are cut to the rows that it needs.
@@ -82,11 +90,11 @@ pub fn limit_over(
     k: u64,
     p: Boxed<Phys>,
     partitions: u32,
-) -> Result<Phys, NoMemory>
+) -> Result<Boxed<Phys>, NoMemory>
     ensures { IfOk result (λ q. q ≡ spec.limit_over partitions n k p) }
 {
     if is_met(alloc, p.get(), &Need::One, partitions)? {
-        return Ok(Phys::Limit { n, k, input: p });
+        return Boxed::new(alloc, Phys::Limit { n, k, input: p });
     }
     match needed_rows(n, k) {
         Some(rows) => {

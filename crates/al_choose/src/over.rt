@@ -13,38 +13,41 @@ use al_plan::{Expr, Generator, Plan, Var};
 use al_value::{Boxed, Name, NoMemory, Text};
 use std::alloc::Global;
 
-pub fn scan_of(alloc: Global, set: &Name, vars: &[Var]) -> Result<Phys, NoMemory>
+pub fn scan_of(alloc: Global, set: &Name, vars: &[Var]) -> Result<Boxed<Phys>, NoMemory>
     ensures { IfOk result (λ q. q ≡ Q.Scan set.now vars.now) }
 {
-    Ok(Phys::Scan {
-        set: set.copy(alloc)?,
-        vars: copy_vars(alloc, vars)?,
-    })
+    let set = set.copy(alloc)?;
+    let vars = copy_vars(alloc, vars)?;
+    Boxed::new(alloc, Phys::Scan { set, vars })
 }
 
 pub fn assign_over(
     alloc: Global,
     made: &[(Var, Expr)],
     input: Boxed<Phys>,
-) -> Result<Phys, NoMemory>
+) -> Result<Boxed<Phys>, NoMemory>
     ensures { IfOk result (λ q. q ≡ Q.Assign made.now input) }
 {
     let made = copy_assigned(alloc, made)?;
-    Ok(Phys::Assign { made, input })
+    Boxed::new(alloc, Phys::Assign { made, input })
 }
 
-pub fn select_over(alloc: Global, cond: &Expr, input: Boxed<Phys>) -> Result<Phys, NoMemory>
+pub fn select_over(alloc: Global, cond: &Expr, input: Boxed<Phys>) -> Result<Boxed<Phys>, NoMemory>
     ensures { IfOk result (λ q. q ≡ Q.Select cond.now input) }
 {
     let cond = cond.copy(alloc)?;
-    Ok(Phys::Select { cond, input })
+    Boxed::new(alloc, Phys::Select { cond, input })
 }
 
-pub fn project_over(alloc: Global, vars: &[Var], input: Boxed<Phys>) -> Result<Phys, NoMemory>
+pub fn project_over(
+    alloc: Global,
+    vars: &[Var],
+    input: Boxed<Phys>,
+) -> Result<Boxed<Phys>, NoMemory>
     ensures { IfOk result (λ q. q ≡ Q.Project vars.now input) }
 {
     let vars = copy_vars(alloc, vars)?;
-    Ok(Phys::Project { vars, input })
+    Boxed::new(alloc, Phys::Project { vars, input })
 }
 
 pub fn unnest_over(
@@ -52,19 +55,23 @@ pub fn unnest_over(
     var: &Var,
     items: &Generator,
     input: Boxed<Phys>,
-) -> Result<Phys, NoMemory>
+) -> Result<Boxed<Phys>, NoMemory>
     ensures { IfOk result (λ q. q ≡ Q.Unnest var.now items.now input) }
 {
     let var = var.copy(alloc)?;
     let items = items.copy(alloc)?;
-    Ok(Phys::Unnest { var, items, input })
+    Boxed::new(alloc, Phys::Unnest { var, items, input })
 }
 
-pub fn subplan_over(alloc: Global, nested: &Plan, input: Boxed<Phys>) -> Result<Phys, NoMemory>
+pub fn subplan_over(
+    alloc: Global,
+    nested: &Plan,
+    input: Boxed<Phys>,
+) -> Result<Boxed<Phys>, NoMemory>
     ensures { IfOk result (λ q. q ≡ Q.Subplan nested.now input) }
 {
     let nested = nested.copy(alloc)?;
-    Ok(Phys::Subplan { nested, input })
+    Boxed::new(alloc, Phys::Subplan { nested, input })
 }
 
 pub fn check_over(
@@ -72,12 +79,12 @@ pub fn check_over(
     name: &Text,
     cond: &Expr,
     input: Boxed<Phys>,
-) -> Result<Phys, NoMemory>
+) -> Result<Boxed<Phys>, NoMemory>
     ensures { IfOk result (λ q. q ≡ Q.Check name.now cond.now input) }
 {
     let name = name.copy(alloc)?;
     let cond = cond.copy(alloc)?;
-    Ok(Phys::Check { name, cond, input })
+    Boxed::new(alloc, Phys::Check { name, cond, input })
 }
 
 pub fn union_over(
@@ -87,25 +94,35 @@ pub fn union_over(
     right_vars: &[Var],
     left: Boxed<Phys>,
     right: Boxed<Phys>,
-) -> Result<Phys, NoMemory>
+) -> Result<Boxed<Phys>, NoMemory>
     ensures { IfOk result (λ q. q ≡ Q.Union made.now left_vars.now right_vars.now left right) }
 {
-    Ok(Phys::Union {
-        made: copy_vars(alloc, made)?,
-        left_vars: copy_vars(alloc, left_vars)?,
-        right_vars: copy_vars(alloc, right_vars)?,
-        left,
-        right,
-    })
+    let made = copy_vars(alloc, made)?;
+    let left_vars = copy_vars(alloc, left_vars)?;
+    let right_vars = copy_vars(alloc, right_vars)?;
+    Boxed::new(
+        alloc,
+        Phys::Union {
+            made,
+            left_vars,
+            right_vars,
+            left,
+            right,
+        },
+    )
 }
 
 /// Rows that are equal stand in one part, and each part keeps one of them.
-pub fn distinct_over(alloc: Global, p: Boxed<Phys>, partitions: u32) -> Result<Phys, NoMemory>
+pub fn distinct_over(
+    alloc: Global,
+    p: Boxed<Phys>,
+    partitions: u32,
+) -> Result<Boxed<Phys>, NoMemory>
     ensures { IfOk result (λ q. q ≡ Q.HashDistinct (spec.served partitions (N.Keyed (meaning.phys_live p)) p)) }
 {
     let need = Need::Keyed(phys_live(alloc, p.get())?);
     let input = served(alloc, need, p, partitions)?;
-    Ok(Phys::HashDistinct { input })
+    Boxed::new(alloc, Phys::HashDistinct { input })
 }
 
 /// All rows stand in one part.
@@ -114,10 +131,10 @@ pub fn result_over(
     vars: &[Var],
     p: Boxed<Phys>,
     partitions: u32,
-) -> Result<Phys, NoMemory>
+) -> Result<Boxed<Phys>, NoMemory>
     ensures { IfOk result (λ q. q ≡ Q.Result vars.now (spec.served partitions N.One p)) }
 {
     let vars = copy_vars(alloc, vars)?;
     let input = served(alloc, Need::One, p, partitions)?;
-    Ok(Phys::Result { vars, input })
+    Boxed::new(alloc, Phys::Result { vars, input })
 }

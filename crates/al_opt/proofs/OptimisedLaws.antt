@@ -17,12 +17,12 @@ use Rattle.al_opt.specs.Optimised.{LegalTrace, Reaches, is_once, rules_of, set_o
 pub reached_once : (rules : Rules) (p q : Plan) (before now : Trace) → Drove rules p before now q → WalkedOnce rules p before now q → Stuck rules q → Replaces q p → Reaches true rules p before now q
 reached_once rules p q before now (steps, gained, leads) (walk, walked, is) stuck replaces =
     let same : walk ≡ steps = same_gain before.steps walk steps (sym walked ∙ gained) in
-    record { steps = steps; gained = gained; leads = leads; walks = subst (λ (ss : List TraceStep). IsWalk rules p ss q) same is; stuck = stuck; replaces = replaces; }
+    record { steps = steps; gained = gained; leads = leads; walks = subst (λ (ss : List TraceStep). IsWalk rules p ss q) same is; stuck = stuck; replaces = replaces }
 
 pub reached_out : (rules : Rules) (p q : Plan) (before now : Trace) → Drove rules p before now q → WalkedOut rules p before now q → Stuck rules q → Replaces q p → Reaches false rules p before now q
 reached_out rules p q before now (steps, gained, leads) (walks, walked, are, last) stuck replaces =
     let same : steps ≡ flat_map (λ w. w) walks = same_gain before.steps steps (flat_map (λ w. w) walks) (sym gained ∙ walked) in
-    record { steps = steps; gained = gained; leads = leads; walks = (walks, same, are, last); stuck = stuck; replaces = replaces; }
+    record { steps = steps; gained = gained; leads = leads; walks = (walks, same, are, last); stuck = stuck; replaces = replaces }
 
 -- the trace gained steps by which these sets lead from the first plan to the second
 pub record DrivenOn (sets_of : SetName → Rules) (once : SetName → Bool) (sets : List SetName) (p : Plan) (before now : Trace) (q : Plan) : Type 0 where

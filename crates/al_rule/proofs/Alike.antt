@@ -97,16 +97,6 @@ alike-Assign made q p h = record {
   faults = λ sets name. faults-Assign made q sets [] [] name ∙ h.faults sets name ∙ sym (faults-Assign made p sets [] [] name);
 }
 
-pub alike-Select : (c : Expr) (q p : Plan) → Alike q p → Alike (P.Select c q) (P.Select c p)
-alike-Select c q p h = record {
-  vars = live-Select c q [] ∙ h.vars ∙ sym (live-Select c p []);
-  order = ordered-Select c q ∙ h.order ∙ sym (ordered-Select c p);
-  scanned = scans-Select c q ∙ h.scanned ∙ sym (scans-Select c p);
-  made = makes-Select c q ∙ h.made ∙ sym (makes-Select c p);
-  root = result-Select c q ∙ sym (result-Select c p);
-  faults = λ sets name. faults-Select c q sets [] [] name ∙ h.faults sets name ∙ sym (faults-Select c p sets [] [] name);
-}
-
 pub alike-Project : (vars : List Var) (q p : Plan) → Alike q p → Alike (P.Project vars q) (P.Project vars p)
 alike-Project vars q p h = record {
   vars = live-Project vars q [] ∙ sym (live-Project vars p []);
@@ -137,16 +127,6 @@ alike-Subplan n q p h = record {
   faults = λ sets name. faults-Subplan n q sets [] [] name ∙ h.faults sets name ∙ sym (faults-Subplan n p sets [] [] name);
 }
 
-pub alike-Group : (keys : List (Var × Var)) (n : Plan) (q p : Plan) → Alike q p → Alike (P.Group keys n q) (P.Group keys n p)
-alike-Group keys n q p h = record {
-  vars = live-Group keys n q [] ∙ ap (λ (vs : List Var). map (λ k. k.0) keys ++ live n vs) h.vars ∙ sym (live-Group keys n p []);
-  order = ordered-Group keys n q ∙ sym (ordered-Group keys n p);
-  scanned = scans-Group keys n q ∙ ap (λ ss. ss ++ scans n) h.scanned ∙ sym (scans-Group keys n p);
-  made = makes-Group keys n q ∙ ap (λ (vs : List Var). vs ++ (makes n ++ map (λ k. k.0) keys)) h.made ∙ sym (makes-Group keys n p);
-  root = result-Group keys n q ∙ sym (result-Group keys n p);
-  faults = λ sets name. faults-Group keys n q sets [] [] name ∙ h.faults sets name ∙ sym (faults-Group keys n p sets [] [] name);
-}
-
 pub alike-Distinct : (q p : Plan) → Alike q p → Alike (P.Distinct q) (P.Distinct p)
 alike-Distinct q p h = record {
   vars = live-Distinct q [] ∙ h.vars ∙ sym (live-Distinct p []);
@@ -157,16 +137,6 @@ alike-Distinct q p h = record {
   faults = λ sets name. faults-Distinct q sets [] [] name ∙ h.faults sets name ∙ sym (faults-Distinct p sets [] [] name);
 }
 
-pub alike-Aggregate : (made : List (Var × AggCall)) (q p : Plan) → Alike q p → Alike (P.Aggregate made q) (P.Aggregate made p)
-alike-Aggregate made q p h = record {
-  vars = live-Aggregate made q [] ∙ sym (live-Aggregate made p []);
-  order = ordered-Aggregate made q ∙ sym (ordered-Aggregate made p);
-  scanned = scans-Aggregate made q ∙ h.scanned ∙ sym (scans-Aggregate made p);
-  made = makes-Aggregate made q ∙ ap (λ (vs : List Var). vs ++ map (λ m. m.0) made) h.made ∙ sym (makes-Aggregate made p);
-  root = result-Aggregate made q ∙ sym (result-Aggregate made p);
-  faults = λ sets name. faults-Aggregate made q sets [] [] name ∙ h.faults sets name ∙ sym (faults-Aggregate made p sets [] [] name);
-}
-
 pub alike-Order : (keys : List OrderKey) (q p : Plan) → Alike q p → Alike (P.Order keys q) (P.Order keys p)
 alike-Order keys q p h = record {
   vars = live-Order keys q [] ∙ h.vars ∙ sym (live-Order keys p []);
@@ -175,16 +145,6 @@ alike-Order keys q p h = record {
   made = makes-Order keys q ∙ h.made ∙ sym (makes-Order keys p);
   root = result-Order keys q ∙ sym (result-Order keys p);
   faults = λ sets name. faults-Order keys q sets [] [] name ∙ h.faults sets name ∙ sym (faults-Order keys p sets [] [] name);
-}
-
-pub alike-Limit : (n k : ℕ) (q p : Plan) → Alike q p → Alike (P.Limit n k q) (P.Limit n k p)
-alike-Limit n k q p h = record {
-  vars = live-Limit n k q [] ∙ h.vars ∙ sym (live-Limit n k p []);
-  order = ordered-Limit n k q ∙ h.order ∙ sym (ordered-Limit n k p);
-  scanned = scans-Limit n k q ∙ h.scanned ∙ sym (scans-Limit n k p);
-  made = makes-Limit n k q ∙ h.made ∙ sym (makes-Limit n k p);
-  root = result-Limit n k q ∙ sym (result-Limit n k p);
-  faults = λ sets name. faults-Limit n k q sets [] [] name ∙ h.faults sets name ∙ sym (faults-Limit n k p sets [] [] name);
 }
 
 pub alike-Join : (c d : Expr) (q p s r : Plan) → Alike q p → Alike s r → Alike (P.Join c q s) (P.Join d p r)

@@ -54,9 +54,6 @@ drove_on rules p q r before mid now (xs, x_is, hx) (ys, y_is, hy) =
 
 -- ---- the step that the code makes
 
-pub step_made : (rules : Rules) (k : ℕ) (place : List ℕ) (p q : Plan) (before now : Trace) → Applied (rules.rewrites k) place p q → Records rules k place before now → StepsTo rules k place p before q now
-step_made rules k place p q before now h (s, is, set_is, rule_is, place_is) = record { step = s; gained = is; set = set_is; name = rule_is; place_is = place_is; applied = h }
-
 applied_there : (rules : Rules) (k : ℕ) (place : List ℕ) (p q : Plan) (before now : Trace) (m : StepsTo rules k place p before q now) → Applied (rules.rewrites k) m.step.place.children p q
 applied_there rules k place p q before now m = subst (λ (l : List ℕ). Applied (rules.rewrites k) l p q) (sym m.place_is) m.applied
 
@@ -110,10 +107,6 @@ pub same_gain : (xs ys zs : List TraceStep) → xs ++ ys ≡ xs ++ zs → ys ≡
 same_gain [] ys zs e = e
 same_gain (x ∷ xs) ys zs e = same_gain xs ys zs cc
 
-none_gained : (xs ys : List TraceStep) → xs ++ ys ≡ xs → ys ≡ []
-none_gained [] ys e = e
-none_gained (x ∷ xs) ys e = none_gained xs ys cc
-
 no_walks : (rules : Rules) (p : Plan) → AreWalks rules p [] p
 unfolding AreWalks
 no_walks rules p = refl
@@ -149,7 +142,7 @@ one_walk_more rules weight p q r before now later (walks, is, are) (w, gained, w
 pub walked_out : (rules : Rules) (p q r : Plan) (before now later : Trace) → WalkedSoFar rules p before q now → WalkedOnce rules q now later r → later.steps ≡ now.steps → WalkedOut rules p before later r
 unfolding WalkedSoFar
 walked_out rules p q r before now later (walks, is, are) (w, gained, walk) same =
-    let none : w ≡ [] = none_gained now.steps w (sym gained ∙ same) in
+    let none : w ≡ [] = same_gain now.steps w [] (sym gained ∙ same ∙ sym (append-nil now.steps)) in
     let r_is : r ≡ q = walk_of_none rules q r w none walk in
     let last : IsWalk rules r [] r = subst (λ (x : Plan). IsWalk rules x [] r) (sym r_is) (subst (λ (ss : List TraceStep). IsWalk rules q ss r) none walk) in
     (walks, same ∙ is, subst (λ (x : Plan). AreWalks rules p walks x) (sym r_is) are, last)

@@ -68,16 +68,6 @@ out_Select c p f =
 pub in_Select : (c : Expr) (p : Plan) → SelectFits c p → Fit (P.Select c p)
 in_Select c p h = fit_in (L.Select c p) _ (P.rolls-Select c p) (record { each = ((h.input.each, h.root), h.over); narrow = h.input.narrow; once = h.input.once })
 
--- another input that fits, with the same live and made variables
-pub over_Select : (c : Expr) (q p : Plan) → Fit (P.Select c p) → Fit q → result_of q ≡ None → live q [] ≡ live p [] → makes q ≡ makes p → Fit (P.Select c q)
-over_Select c q p f fit root same alike =
-    let h = out_Select c p f in
-    in_Select c q (record {
-      input = fit;
-      root = root;
-      over = subst (λ (vs : List Var). IsOver vs c) (sym same) h.over;
-    })
-
 -- what a plan with a project at its root asks of its input
 pub record ProjectFits (vars : List Var) (p : Plan) : Type 0 where
   pub input : Fit p
@@ -326,43 +316,6 @@ out_Limit n k p f =
 pub in_Limit : (n k : ℕ) (p : Plan) → LimitFits n k p → Fit (P.Limit n k p)
 in_Limit n k p h = fit_in (L.Limit n k p) _ (P.rolls-Limit n k p) (record { each = (h.input.each, h.root); narrow = h.input.narrow; once = h.input.once })
 
--- another input that fits, with the same live and made variables
-pub over_Limit : (n k : ℕ) (q p : Plan) → Fit (P.Limit n k p) → Fit q → result_of q ≡ None → live q [] ≡ live p [] → makes q ≡ makes p → Fit (P.Limit n k q)
-over_Limit n k q p f fit root same alike =
-    let h = out_Limit n k p f in
-    in_Limit n k q (record {
-      input = fit;
-      root = root;
-    })
-
--- what a plan with a check at its root asks of its input
-pub record CheckFits (name : Bytes) (c : Expr) (p : Plan) : Type 0 where
-  pub input : Fit p
-  pub root : result_of p ≡ None
-  pub over : IsOver (live p []) c
-
-pub out_Check : (name : Bytes) (c : Expr) (p : Plan) → Fit (P.Check name c p) → CheckFits name c p
-out_Check name c p f =
-    let o = fit_out (L.Check name c p) _ (P.rolls-Check name c p) f in
-    record {
-      input = record { each = o.each.0.0; narrow = o.narrow; once = o.once };
-      root = o.each.0.1;
-      over = o.each.2;
-    }
-
-pub in_Check : (name : Bytes) (c : Expr) (p : Plan) → CheckFits name c p → Fit (P.Check name c p)
-in_Check name c p h = fit_in (L.Check name c p) _ (P.rolls-Check name c p) (record { each = ((h.input.each, h.root), refl, h.over); narrow = h.input.narrow; once = h.input.once })
-
--- another input that fits, with the same live and made variables
-pub over_Check : (name : Bytes) (c : Expr) (q p : Plan) → Fit (P.Check name c p) → Fit q → result_of q ≡ None → live q [] ≡ live p [] → makes q ≡ makes p → Fit (P.Check name c q)
-over_Check name c q p f fit root same alike =
-    let h = out_Check name c p f in
-    in_Check name c q (record {
-      input = fit;
-      root = root;
-      over = subst (λ (vs : List Var). IsOver vs c) (sym same) h.over;
-    })
-
 -- what a plan with a result at its root asks of its input
 pub record ResultFits (vars : List Var) (p : Plan) : Type 0 where
   pub input : Fit p
@@ -384,18 +337,6 @@ out_Result vars p f =
 
 pub in_Result : (vars : List Var) (p : Plan) → ResultFits vars p → Fit (P.Result vars p)
 in_Result vars p h = fit_in (L.Result vars p) _ (P.rolls-Result vars p) (record { each = ((h.input.each, h.root), refl, h.listed, h.no_twice); narrow = (h.input.narrow, h.thin); once = h.input.once })
-
--- another input that fits, with the same live and made variables
-pub over_Result : (vars : List Var) (q p : Plan) → Fit (P.Result vars p) → Fit q → result_of q ≡ None → live q [] ≡ live p [] → makes q ≡ makes p → Fit (P.Result vars q)
-over_Result vars q p f fit root same alike =
-    let h = out_Result vars p f in
-    in_Result vars q (record {
-      input = fit;
-      root = root;
-      listed = subst (λ (vs : List Var). AreLive vs vars) (sym same) h.listed;
-      no_twice = h.no_twice;
-      thin = h.thin;
-    })
 
 -- what a plan with a join at its root asks of its inputs
 pub record JoinFits (c : Expr) (l r : Plan) : Type 0 where

@@ -118,14 +118,6 @@ flat-agree f g h (x ∷ xs) = λ i. h x i ++ flat-agree f g h xs i
 pub filter-pairs : (d c e : Expr) → IsBoth d c e → (xs : List Var) (ls rs : List Env) → filter (holds e) (pairs xs c ls rs) ≡ pairs xs d ls rs
 filter-pairs d c e h xs ls rs = filter-flat (holds e) (matches xs c rs) ls ∙ flat-agree _ _ (λ l. filter-both d c e h (map (beside xs l) rs)) ls
 
--- a select over a join is a join with one more conjunct
-pub select_join_in : (d c e : Expr) → IsBoth d c e → (l r : Plan) (b : Bool) (sets : Sets) (given : List Var) (outer rows : List Env) → Allows (P.Select e (P.Join c l r)) b sets given outer rows → Allows (P.Join d l r) b sets given outer rows
-select_join_in d c e k l r b sets given outer rows h =
-    let s = from_Select e (P.Join c l r) b sets given outer rows h in
-    let o = from_Join c l r b sets given outer s.0 s.1 in
-    let moved = subst (λ (zs : List Env). IsPermutation zs (filter (holds e) s.0)) (filter-pairs d c e k (live l given) o.0 o.2.0) (IsPermutation-filter (holds e) _ s.0 o.2.2) in
-    allows_Join d l r b sets given outer rows (o.0, o.1, (o.2.0, o.2.1, subst (λ (zs : List Env). IsPermutation (pairs (live l given) d o.0 o.2.0) zs) (sym s.2) moved))
-
 pub select_join_out : (d c e : Expr) → IsBoth d c e → (l r : Plan) (b : Bool) (sets : Sets) (given : List Var) (outer rows : List Env) → Allows (P.Join d l r) b sets given outer rows → Allows (P.Select e (P.Join c l r)) b sets given outer rows
 select_join_out d c e k l r b sets given outer rows h =
     let o = from_Join d l r b sets given outer rows h in

@@ -94,12 +94,3 @@ operator_LeftJoin_left c r = record {
   kept = λ q l. over_LeftJoin_left c q l r;
   alike = λ q l h. alike-LeftJoin c c q l r r h (alike-refl r);
 }
-
-pub operator_LeftJoin_right : (c : Expr) (l : Plan) → Operator (λ r. P.LeftJoin c l r)
-operator_LeftJoin_right c l = record {
-  root = λ r. result-LeftJoin c l r;
-  input = λ r f. (out_LeftJoin c l r f).right;
-  input_root = λ r f. (out_LeftJoin c l r f).right_root;
-  kept = λ q r. over_LeftJoin_right c q l r;
-  alike = λ q r h. alike-LeftJoin c c l l q r (alike-refl l) h;
-}

@@ -351,9 +351,6 @@ size_around a x = subst (λ (n : ℕ). size x < n) (sym (ap size (sym (rolls_aro
 pub with_split : (a : Around) (p x y : Plan) (i : ℕ) → p ≡ around a x → i ≡ number a → with_input p i y ≡ around a y
 with_split a p x y i is n = ap (λ z. with_input z i y) is ∙ ap (λ k. with_input (around a x) k y) n ∙ with_around a x y
 
-pub input_fits : (p : Plan) (i : ℕ) (x : Plan) → Fit p → input p i ≡ Some x → Fit x
-input_fits p i x f e = let (a, is, n) = split_input p i x e in fit_input a x (subst Fit is f)
-
 pub input_smaller : (p : Plan) (i : ℕ) (x : Plan) → input p i ≡ Some x → size x < size p
 input_smaller p i x e = let (a, is, n) = split_input p i x e in subst (λ (z : Plan). size x < size z) (sym is) (size_around a x)
 
@@ -394,22 +391,3 @@ applied_goes_up R Down here up (i ∷ place) p q f h =
 -- what a sound rewriting makes of a part may stand in the plan's place
 pub applied_replaces : (R : Rewriting) → ((x y : Plan) → Fit x → R x y → Replaces y x) → (place : List ℕ) (p q : Plan) → Fit p → Applied R place p q → Replaces q p
 applied_replaces R sound place p q f h = applied_goes_up R Replaces sound (λ a x y fa k. replaces_under a y x fa k) place p q f h
-
-part_at : (o : Option Plan) (f : Plan → Option Plan) (x z : Plan) → o ≡ Some x → f x ≡ Some z → and_then o f ≡ Some z
-part_at o f x z e h = ap (λ (w : Option Plan). and_then w f) e ∙ h
-
--- what is rewritten at a place matches there
-pub applied_matches : (R : Rewriting) (place : List ℕ) (p q : Plan) → Applied R place p q → (x : Plan) × (plan_at place p ≡ Some x) × ((y : Plan) × R x y)
-unfolding Applied plan_at
-applied_matches R [] p q h = (p, refl, (q, h))
-applied_matches R (i ∷ place) p q (x, y, e, inner, q_is) =
-    let (z, there, m) = applied_matches R place x y inner in
-    (z, part_at (input p i) (plan_at place) x z e there, m)
-
-select_layer : (a : Around) (x y z : Plan) (c : Expr) → layer a y ≡ L.Select c z → around a x ≡ P.Select c x
-select_layer (select d) x y z c e = let same : d ≡ c = cc in ap (λ (w : Expr). P.Select w x) same
-select_layer _ x y z c e = absurd cc
-
--- an operator that is a select with one input is a select with any
-pub around_select : (a : Around) (x y z : Plan) (c : Expr) → around a y ≡ P.Select c z → around a x ≡ P.Select c x
-around_select a x y z c e = select_layer a x y z c (sym (out_around a y) ∙ ap out-Plan e ∙ out-Select c z)

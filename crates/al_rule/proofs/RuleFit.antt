@@ -41,17 +41,6 @@ fit_in x p e f = subst Fit e (record {
   once = subst NoTwice (sym (makes-roll x)) f.once;
 })
 
-pub fit_Select : (c : Expr) (p : Plan) → Fit (P.Select c p) → Fit p
-fit_Select c p f = fit_inputs {S = Unit {0}} (λ t. p) (L.Select c tt) (subst Fit (sym (P.rolls-Select c p)) f)
-
-pub fit_Project : (vars : List Var) (p : Plan) → Fit (P.Project vars p) → Fit p
-fit_Project vars p f = fit_inputs {S = Unit {0}} (λ t. p) (L.Project vars tt) (subst Fit (sym (P.rolls-Project vars p)) f)
-
-pub fit_Join : (c : Expr) (l r : Plan) → Fit (P.Join c l r) → Fit l × Fit r
-fit_Join c l r f = fit_inputs {S = Bool} (λ t. if t then l else r) (L.Join c true false) (subst Fit (sym (P.rolls-Join c l r)) f)
-
--- ---- variables of expressions
-
 cut_keeps : (vars : List Var) (r : Env) (qs : List Bytes) → AreAmong vars qs → AllByRecursion (λ q. cut vars r q ≡ r q) qs
 cut_keeps vars r [] h = tt
 cut_keeps vars r (q ∷ qs) h = (ap (λ b. if b then r q else V.Null) h.0, cut_keeps vars r qs h.1)
@@ -71,13 +60,3 @@ holds-beside e vars a b h = ap is_true (eval-names e (beside vars a b) a (beside
 pub among_among : (xs vars : List Var) → AreLive xs vars → (qs : List Bytes) → AreAmong vars qs → AreAmong xs qs
 among_among xs vars h [] g = tt
 among_among xs vars h (q ∷ qs) g = (among_of xs vars h q g.0, among_among xs vars h qs g.1)
-
-pub over_front : (xs ys : List Var) (qs : List Bytes) → AreAmong xs qs → AreAmong (xs ++ ys) qs
-over_front xs ys [] h = tt
-over_front xs ys (q ∷ qs) h = (is_among-append xs ys q ∙ ap (λ b. b || is_among ys q) h.0, over_front xs ys qs h.1)
-
-pub fit_Group : (keys : List (Var × Var)) (n p : Plan) → Fit (P.Group keys n p) → Fit p
-fit_Group keys n p f = fit_inputs {S = Bool} (λ t. if t then n else p) (L.Group keys true false) (subst Fit (sym (P.rolls-Group keys n p)) f)
-
-pub fit_LeftJoin_inputs : (c : Expr) (l r : Plan) → Fit (P.LeftJoin c l r) → Fit l × Fit r
-fit_LeftJoin_inputs c l r f = fit_inputs {S = Bool} (λ t. if t then l else r) (L.LeftJoin c true false) (subst Fit (sym (P.rolls-LeftJoin c l r)) f)

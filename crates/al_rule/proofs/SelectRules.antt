@@ -42,9 +42,6 @@ front_one : (a b : Bool) → (a || b) ≡ true → b ≡ false → a ≡ true
 front_one true b h g = refl
 front_one false b h g = sym (sym h ∙ g)
 
-back_one : (a b : Bool) → (a || b) ≡ true → a ≡ false → b ≡ true
-back_one a b h g = sym (ap (λ t. t || b) g) ∙ h
-
 -- what is among two lists, and in none of the second, is among the first
 pub among_front : (xs ys : List Var) (qs : List Bytes) → AreAmong (xs ++ ys) qs → AllByRecursion (λ q. is_among ys q ≡ false) qs → AreAmong xs qs
 among_front xs ys [] h g = tt
@@ -96,9 +93,6 @@ split_and d a b p both over_a over_b fit =
     allows_Select d p s sets [] [] rows (two.0, two.1, one.2 ∙ ap (filter (holds a)) two.2 ∙ filter_twice d a b both two.0))
 
 -- ---- below operators that work on each row alone
-
-through_one : (e : Expr) (r s : Env) → holds e s ≡ holds e r → (t u : Bool) → holds e r ≡ t → holds e s ≡ u → cond t (s ∷ []) [] ≡ cond u (s ∷ []) []
-through_one e r s h t u et eu = ap (λ b. cond b (s ∷ []) []) (sym et ∙ sym h ∙ eu)
 
 -- a link that makes one row of each row
 one_row : (f : Env → Env) (e : Expr) (r : Env) → holds e (f r) ≡ holds e r → flat_map (λ z. f z ∷ []) (cond (holds e r) (r ∷ []) [] ++ []) ≡ flat_map (row_of (selecting e)) (flat_map (λ z. f z ∷ []) (r ∷ []))

@@ -14,6 +14,7 @@ use crate::trace::{Trace, TraceStep};
 use al_plan::{Place, Plan};
 use al_value::{List, NoMemory};
 use std::alloc::Global;
+use std::mem::replace;
 
 /// The plan with the rule applied that was found, beside the plan as it is.
 fn rewritten<S: RuleSet>(
@@ -67,9 +68,18 @@ fn step<S: RuleSet>(
     ensures same_trace { OnErr result (t.new.steps ≡ t.old.steps) }
 {
     let next = rewritten(alloc, set, plan, found)?;
-    note(alloc, set, t, found)?;
-    *plan = next;
-    Ok(())
+    let noted = note(alloc, set, t, found);
+    // Calls drop the plans, since what drops in place is proved variant by variant.
+    match noted {
+        Ok(()) => {
+            drop(replace(plan, next));
+            Ok(())
+        }
+        Err(fault) => {
+            drop(next);
+            Err(fault)
+        }
+    }
 }
 
 /// Walks the plan once, and tells whether a rule was applied.

@@ -201,9 +201,16 @@ fn swap_input(p: Plan, i: u32, new: Boxed<Plan>) -> (Plan, Boxed<Plan>)
 fn take_input(alloc: Global, p: Plan, i: u32) -> Result<(Plan, Plan), NoMemory>
     ensures { IfOk result (λ taken. (x : Plan) → input p i ≡ Some x → (taken.0 ≡ with_input p i Empty) × (taken.1 ≡ x)) }
 {
-    let empty = Boxed::new(alloc, Plan::Empty)?;
-    let (rest, part) = swap_input(p, i, empty);
-    Ok((rest, part.into_inner()))
+    match Boxed::new(alloc, Plan::Empty) {
+        Ok(empty) => {
+            let (rest, part) = swap_input(p, i, empty);
+            Ok((rest, part.into_inner()))
+        }
+        Err(fault) => {
+            drop(p);
+            Err(fault)
+        }
+    }
 }
 
 /// The plan with a new plan as the input that is child `i`.
@@ -221,7 +228,11 @@ fn apply_here<S: RuleSet>(alloc: Global, set: &S, k: usize, p: Plan) -> Result<P
 {
     match set.apply(alloc, k, p) {
         Ok(q) => Ok(q),
-        Err(_) => Err(NoMemory),
+        Err(fault) => {
+            // A call, since what drops in place is proved variant by variant.
+            drop(fault);
+            Err(NoMemory)
+        }
     }
 }
 

@@ -104,23 +104,39 @@ fn join_of(outer: bool, cond: Expr, left: Boxed<Plan>, right: Boxed<Plan>) -> Pl
     }
 }
 
+fn join_over(
+    alloc: Global,
+    join: &Sides<'_>,
+    left: Boxed<Plan>,
+    right: Boxed<Plan>,
+) -> Result<Boxed<Plan>, NoMemory>
+    ensures { IfOk result (λ q. q ≡ joined join.now.outer join.now.cond.now left right) }
+{
+    let cond = join.cond.copy(alloc)?;
+    Boxed::new(alloc, join_of(join.outer, cond, left, right))
+}
+
 /// The join over its inputs, of which one is cut.
-fn cut_side(alloc: Global, vars: &[Var], join: &Sides<'_>, on_left: bool) -> Result<Plan, NoMemory>
+fn cut_side(
+    alloc: Global,
+    vars: &[Var],
+    join: &Sides<'_>,
+    on_left: bool,
+) -> Result<Boxed<Plan>, NoMemory>
     ensures { IfOk result (λ q. q ≡ joined join.now.outer join.now.cond.now (left_cut on_left (vars.now ++ read_by join.now.cond.now) join.now.left.now) (right_cut on_left (vars.now ++ read_by join.now.cond.now) join.now.right.now)) }
 {
     let wanted = ListedOrRead {
         vars,
         cond: join.cond,
     };
-    let cond = join.cond.copy(alloc)?;
     if on_left {
         let left = narrowed(alloc, &wanted, join.left)?;
         let right = copied(alloc, join.right)?;
-        return Ok(join_of(join.outer, cond, left, right));
+        return join_over(alloc, join, left, right);
     }
     let left = copied(alloc, join.left)?;
     let right = narrowed(alloc, &wanted, join.right)?;
-    Ok(join_of(join.outer, cond, left, right))
+    join_over(alloc, join, left, right)
 }
 
 #[tactic(auto, using(crate::proofs::MatchLaws::rewritten_join))]
@@ -130,8 +146,7 @@ fn cut_join(alloc: Global, p: &Plan) -> Result<Option<Plan>, NoMemory>
     let Some(found) = wide_join(p) else {
         return Ok(None);
     };
-    let over = cut_side(alloc, found.vars.as_slice(), &found.join, found.on_left)?;
-    let input = Boxed::new(alloc, over)?;
+    let input = cut_side(alloc, found.vars.as_slice(), &found.join, found.on_left)?;
     let vars = copy_vars(alloc, found.vars.as_slice())?;
     Ok(Some(Plan::Project { vars, input }))
 }

@@ -79,11 +79,10 @@ impl One {
         }
     }
 
-    pub fn over(self, alloc: Global, input: Plan) -> Result<Plan, NoMemory>
+    pub fn over(self, alloc: Global, input: Boxed<Plan>) -> Result<Boxed<Plan>, NoMemory>
         ensures { IfOk result (λ p. p ≡ reading.over self input) }
     {
-        let input = Boxed::new(alloc, input)?;
-        Ok(self.over_boxed(input))
+        Boxed::new(alloc, self.over_boxed(input))
     }
 }
 
@@ -123,12 +122,15 @@ impl Two {
     }
 
     /// Over the input that is written first, and the other.
-    pub fn over(self, alloc: Global, first: Plan, second: Plan) -> Result<Plan, NoMemory>
+    pub fn over(
+        self,
+        alloc: Global,
+        first: Boxed<Plan>,
+        second: Boxed<Plan>,
+    ) -> Result<Boxed<Plan>, NoMemory>
         ensures { IfOk result (λ p. p ≡ reading.over_both self first second) }
     {
-        let first = Boxed::new(alloc, first)?;
-        let second = Boxed::new(alloc, second)?;
-        Ok(self.over_boxed(first, second))
+        Boxed::new(alloc, self.over_boxed(first, second))
     }
 }
 

@@ -1,21 +1,29 @@
 //! Plans and files.
 
-ghost use Rattle.std.specs.Prelude.{◌≡◌, ◌++◌};
+ghost use Rattle.std.specs.Prelude.{◌≡◌, ◌++◌, IfOk};
+ghost use Rattle.al_plan.specs.declared.plan.Plan.TheVariants as P;
 ghost use Rattle.al_read.specs.PlanReading as reading;
 
 use super::head::{Head, One, Two};
 use super::items::filled;
 use super::reader::{Reader, Stopped};
 use al_csv::Decl;
-use al_plan::Plan;
-use al_value::{Boxed, List};
+use al_plan::{Plan, Var};
+use al_value::{Boxed, List, NoMemory};
+use std::alloc::Global;
 
 /// A plan file without the places.
 #[derive(Debug, Drop)]
 pub struct Parts {
     pub version: u32,
     pub datasets: List<Decl>,
-    pub root: Plan,
+    pub root: Boxed<Plan>,
+}
+
+fn result_over(alloc: Global, vars: List<Var>, input: Boxed<Plan>) -> Result<Boxed<Plan>, NoMemory>
+    ensures { IfOk result (λ p. p ≡ P.Result vars input) }
+{
+    Boxed::new(alloc, Plan::Result { vars, input })
 }
 
 impl<'a> Reader<'a> {
@@ -32,7 +40,7 @@ impl<'a> Reader<'a> {
 
     #[cycle(plan)]
     #[tactic(auto, unfolding(crate::specs::PlanReading::inputs_at))]
-    fn one_input(&mut self, levels: usize, one: One) -> Result<Plan, Stopped>
+    fn one_input(&mut self, levels: usize, one: One) -> Result<Boxed<Plan>, Stopped>
         ensures { reading.Gives result self.new (reading.inputs_at (reading.plan_at levels) (Head.One one) (reading.state self.old)) }
     {
         let input = self.plan(levels)?;
@@ -41,7 +49,7 @@ impl<'a> Reader<'a> {
 
     #[cycle(plan)]
     #[tactic(auto, unfolding(crate::specs::PlanReading::inputs_at))]
-    fn two_inputs(&mut self, levels: usize, two: Two) -> Result<Plan, Stopped>
+    fn two_inputs(&mut self, levels: usize, two: Two) -> Result<Boxed<Plan>, Stopped>
         ensures { reading.Gives result self.new (reading.inputs_at (reading.plan_at levels) (Head.Two two) (reading.state self.old)) }
     {
         let first = self.plan(levels)?;
@@ -51,11 +59,11 @@ impl<'a> Reader<'a> {
 
     #[cycle(plan)]
     #[tactic(auto, unfolding(crate::specs::PlanReading::inputs_at))]
-    fn inputs(&mut self, levels: usize, head: Head) -> Result<Plan, Stopped>
+    fn inputs(&mut self, levels: usize, head: Head) -> Result<Boxed<Plan>, Stopped>
         ensures { reading.Gives result self.new (reading.inputs_at (reading.plan_at levels) head (reading.state self.old)) }
     {
         match head {
-            Head::Leaf(leaf) => Ok(leaf.plan()),
+            Head::Leaf(leaf) => Ok(Boxed::new(self.alloc, leaf.plan())?),
             Head::One(one) => self.one_input(levels, one),
             Head::Two(two) => self.two_inputs(levels, two),
         }
@@ -64,7 +72,7 @@ impl<'a> Reader<'a> {
     /// A plan, where so many parentheses may open within one another.
     #[cycle(plan)]
     #[tactic(auto, unfolding(crate::specs::PlanReading::plan_at))]
-    fn plan(&mut self, levels: usize) -> Result<Plan, Stopped>
+    fn plan(&mut self, levels: usize) -> Result<Boxed<Plan>, Stopped>
         ensures { reading.Gives result self.new (reading.plan_at levels (reading.state self.old)) }
     {
         if levels == 0 {
@@ -125,17 +133,14 @@ impl<'a> Reader<'a> {
 
     /// A root behind its word.
     #[tactic(auto, unfolding(crate::specs::PlanReading::root_at))]
-    fn root(&mut self, levels: usize) -> Result<Plan, Stopped>
+    fn root(&mut self, levels: usize) -> Result<Boxed<Plan>, Stopped>
         ensures { reading.Gives result self.new (reading.root_at levels (reading.state self.old)) }
     {
         self.open()?;
         let vars = filled(self, 0)?;
         let input = self.plan(levels)?;
         self.close()?;
-        Ok(Plan::Result {
-            vars,
-            input: Boxed::new(self.alloc, input)?,
-        })
+        Ok(result_over(self.alloc, vars, input)?)
     }
 
     /// A plan file, where so many parentheses may open within one another.

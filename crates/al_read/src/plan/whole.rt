@@ -85,7 +85,7 @@ fn whole_of(
             version: parts.version,
             datasets: parts.datasets,
             dataset_places: reader.datasets,
-            root: parts.root,
+            root: parts.root.into_inner(),
             places: reader.operators,
         }),
         (rest, deep) => stopped_with(RefusedKind::Form, rest, deep, end),
