@@ -1,19 +1,16 @@
 -- What the tasks of a job took, put and handed on, and when all of it fits together.
 use Rattle.std.specs.Prelude.{◌≡◌, ◌≢◌, ◌⊎◌, ◌<◌, ℕ, nat_eq, Bool, true, false, ◌&&◌, List, [], ◌∷◌, ◌++◌, map, filter}
-use Rattle.std.specs.List.{flat_map, list_any, All, Contains}
+use Rattle.std.specs.List.{flat_map, list_any, All, AllByRecursion, Contains}
 use Rattle.hy_job.specs.declared.job.Kind.{Kind}
 use Rattle.hy_job.specs.declared.job.Kind.TheVariants as K
-use Rattle.hy_job.specs.declared.job.Wire.{Wire}
-use Rattle.hy_job.specs.declared.job.Wire.TheVariants as W
 use Rattle.hy_job.specs.declared.job.Activity.{Activity}
 use Rattle.hy_job.specs.declared.job.Edge.{Edge}
 use Rattle.hy_job.specs.declared.job.Block.{Block}
 use Rattle.hy_job.specs.declared.job.Job.{Job}
 use Rattle.hy_job.specs.declared.job.Stage.{Stage}
 use Rattle.hy_job.specs.Columns.{Row, holds}
-use Rattle.hy_job.specs.Sound.{edges_from}
 use Rattle.hy_job.specs.Stages.{activities_in}
-use Rattle.hy_job.specs.Runs.{Taken, Took, TaskRun, TaskPart, rows_at}
+use Rattle.hy_job.specs.Runs.{Taken, Took, TaskRun, TaskPart, IsReceiver, IsSender, rows_at}
 
 -- ---- what goes through a mailbox
 
@@ -109,24 +106,6 @@ put_rows = flat_map signal_rows
 abbrev pub given : TaskRecord → List Take → Took
 given r took = record { rows = taken_rows took; scanned = r.scanned; handed = r.handed }
 
--- ---- who receives
-
--- the task of partition `r` receives over the wire from the task of partition `j`
-abbrev pub ReceivesOver : Wire → ℕ → ℕ → ℕ → Type 0
-ReceivesOver W.OneToOne partitions j r = r ≡ j
-ReceivesOver (W.Hash columns) partitions j r = r < partitions
-ReceivesOver W.Broadcast partitions j r = r < partitions
-ReceivesOver W.Gather partitions j r = r ≡ 0
-ReceivesOver (W.Merge keys) partitions j r = r ≡ 0
-
-abbrev pub ReceivesBy : List Edge → ℕ → ℕ → ℕ → Type 0
-ReceivesBy [] partitions j r = ⊥
-ReceivesBy (e ∷ es) partitions j r = ReceivesOver e.wire partitions j r
-
--- partition `r` is a receiver of what the activity's task of partition `j` puts
-abbrev pub IsReceiver : Job → ℕ → ℕ → ℕ → Type 0
-IsReceiver job a j r = ReceivesBy (edges_from job a) job.partitions j r
-
 -- ---- completed and failed tasks
 
 -- where it is a check, its condition is TRUE on all these rows
@@ -203,11 +182,16 @@ pub record IsCaused (job : Job) (stages : List Stage) (records : Records) (a j :
   pub stopped : StopsBy (records a j).outcome (records a j)
   pub saw : (records a j).saw ≡ true → IsRaisedBeside job stages records a
 
+-- what was taken is of the inputs of the activity, and of tasks that send to this one
+abbrev pub TakesFrom : Job → Activity → ℕ → List Take → Type 0
+TakesFrom job a j = AllByRecursion (λ t. IsSender job a j t.input t.sender)
+
 -- the records of the tasks of these stages, which are those of the job that were run, fit together
 pub record Settled (job : Job) (stages : List Stage) (records : Records) : Type 0 where
   pub completed : EachTask job stages (λ a j. (records a.number j).outcome ≡ Completed → IsCompleted job a j (records a.number j))
   pub failed : EachTask job stages (λ a j. (records a.number j).outcome ≢ Completed → IsFailed job a j (records a.number j))
   pub words : EachTask job stages (λ a j. HasWords job a.number j (records a.number j))
+  pub taken : EachTask job stages (λ a j. TakesFrom job a j (records a.number j).took)
   -- what was taken of each sender is what that sender put
   pub delivered : (e : Edge) (s r : ℕ) → Contains job.edges e → Contains (activities_in stages) e.to → s < job.partitions → r < job.partitions
       → taken_of e.input s (records e.to r).took ≡ (records e.from s).put r
