@@ -7,5 +7,6 @@ pub mod Runs
 pub mod Exchange
 pub mod Rest
 pub mod Settled
+pub mod Boxes
 pub mod Cases
 pub mod SettledCases

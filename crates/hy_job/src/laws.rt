@@ -1,4 +1,5 @@
 ghost use Rattle.std.specs.Prelude.{List};
+ghost use Rattle.hy_job.specs.Boxes.{BoxesAreReached, BoxesHaveOrigins, OriginsAreOneToOne, ReceiversHaveBoxes, TasksAreNumbered};
 ghost use Rattle.hy_job.specs.Cases.{BlockIsNeeded, BuildComesFirst, GroupingIsSound, JoiningHasFourStages, JoiningIsSound, NullHasNoPartner, ReadingIsSound, SortingHasTwoStages, SortingIsSound, StatesAreJoined, StatesHaveFields};
 ghost use Rattle.hy_job.specs.Exchange.{WiresExchange};
 ghost use Rattle.hy_job.specs.Runs.{FreeOutputs};
@@ -49,6 +50,17 @@ pub fn output_laws()
 /// into it. It does nothing: its clause speaks of every wire.
 pub fn wire_laws()
     ensures { WiresExchange }
+{}
+
+/// The tasks and the mailboxes of a stage are found again by their numbers, and what is taken of a
+/// mailbox comes from one input and one partition. It does nothing: its clauses speak of every
+/// stage of every sound job.
+pub fn mailbox_laws()
+    ensures tasks { TasksAreNumbered }
+    ensures origins { BoxesHaveOrigins }
+    ensures one_to_one { OriginsAreOneToOne }
+    ensures receivers { ReceiversHaveBoxes }
+    ensures reached { BoxesAreReached }
 {}
 
 /// Small jobs that are sound and that are not, the stages of some, what some activities make, and
