@@ -25,10 +25,10 @@ both false b e = absurd (no_bool (sym e))
 and_true : (a b : Bool) → a ≡ true → b ≡ true → a && b ≡ true
 and_true a b e f = rw (e, f) refl
 
-is_nat : (a b : ℕ) → nat_eq a b ≡ true → a ≡ b
+pub is_nat : (a b : ℕ) → nat_eq a b ≡ true → a ≡ b
 is_nat a b t = grind arith
 
-nat_is : (a b : ℕ) → a ≡ b → nat_eq a b ≡ true
+pub nat_is : (a b : ℕ) → a ≡ b → nat_eq a b ≡ true
 nat_is a b e = ap (λ z. nat_eq z b) e ∙ nat_same b
 
 single : {X : Type 0} (x s : X) → Contains (x ∷ []) s → x ≡ s

@@ -8,5 +8,7 @@ pub mod Exchange
 pub mod Rest
 pub mod Settled
 pub mod Boxes
+pub mod Drivers
+pub mod RunLaws
 pub mod Cases
 pub mod SettledCases

@@ -1,8 +1,11 @@
 ghost use Rattle.std.specs.Prelude.{List};
 ghost use Rattle.hy_job.specs.Boxes.{BoxesAreReached, BoxesHaveOrigins, OriginsAreOneToOne, ReceiversHaveBoxes, TasksAreNumbered};
 ghost use Rattle.hy_job.specs.Cases.{BlockIsNeeded, BuildComesFirst, GroupingIsSound, JoiningHasFourStages, JoiningIsSound, NullHasNoPartner, ReadingIsSound, SortingHasTwoStages, SortingIsSound, StatesAreJoined, StatesHaveFields};
+ghost use Rattle.hy_job.specs.Drivers.{NewDriversGive};
 ghost use Rattle.hy_job.specs.Exchange.{WiresExchange};
+ghost use Rattle.hy_job.specs.RunLaws.{ProbesMove, RunsFit};
 ghost use Rattle.hy_job.specs.Runs.{FreeOutputs};
+ghost use Rattle.hy_job.specs.Settled.{FailsAtLast, PassesAtLast, StopsByFaults};
 ghost use Rattle.hy_job.specs.SettledCases.{CheckFails, ListingSettles};
 ghost use Rattle.hy_job.specs.Rest.{ContinuesThen, FreeAlive, FreeContinues, FreeFinished, HeldAlive, HeldContinues, HeldFinished, IdleContinues, InOrderAlive, InOrderContinues, InOrderFinished, NoneIsOpen};
 
@@ -40,10 +43,27 @@ pub fn rest_laws<F, A, Old: Resting<F, A>, New: Resting<F, A>, Last: Resting<F, 
     ensures none_open { NoneIsOpen A }
 {}
 
-/// The rows of an activity without an order of its own may come in any order. It does nothing: its
-/// clause speaks of every activity.
+/// The rows of an activity without an order of its own may come in any order, those of a probe
+/// whatever the order of what it was handed; and the rows that a task of a sound job makes have as
+/// many values as its activity says. It does nothing: its clauses speak of every activity.
 pub fn output_laws()
-    ensures { FreeOutputs }
+    ensures free { FreeOutputs }
+    ensures probes { ProbesMove }
+    ensures fit { RunsFit }
+{}
+
+/// A new driver gives what its activity makes. It does nothing: its clause speaks of every
+/// activity.
+pub fn driver_laws()
+    ensures { NewDriversGive }
+{}
+
+/// What is known of a task as far as it has come is what its record needs at the end, and where a
+/// task stopped, another one faulted. It does nothing: its clauses speak of all records.
+pub fn record_laws()
+    ensures fails { FailsAtLast }
+    ensures passes { PassesAtLast }
+    ensures stops { StopsByFaults }
 {}
 
 /// What is sent over a wire and taken at its other end is what the wire makes of the rows that go
