@@ -12,14 +12,14 @@ use Rattle.hy_job.specs.Settled.{Open, Rows, Close, Take, IsFailed, taken_rows, 
 use Rattle.hy_job.specs.SettledCases.{take_first, checking, check_record, CheckFails}
 use Rattle.hy_job.proofs.Members.{by_cases, in_here, in_none, in_cases}
 
-rows_append : (xs ys : List Taken) → rows_at 0 (xs ++ ys) ≡ rows_at 0 xs ++ rows_at 0 ys
+pub rows_append : (xs ys : List Taken) → rows_at 0 (xs ++ ys) ≡ rows_at 0 xs ++ rows_at 0 ys
 rows_append [] ys = refl
 rows_append (x ∷ xs) ys = by_cases (nat_eq x.input 0)
     (λ t. rw t (ap (λ rows. x.row ∷ rows) (rows_append xs ys)))
     (λ f. rw f (rows_append xs ys))
 
 module _ (set name text : List ℕ) (row : Row) where
-  told : IsFailed (checking set name text) (act 1 (K.Check name (is_text text)) 2) 0 (check_record name row) → holds (is_text text) row ≡ false
+  pub told : IsFailed (checking set name text) (act 1 (K.Check name (is_text text)) 2) 0 (check_record name row) → holds (is_text text) row ≡ false
   told h =
       let f = h.cause.1 in
       let early = Contains-append_left (rows_at 0 (taken_rows h.before)) (rows_at 0 (taken_rows h.behind)) f.0 f.1 in
@@ -32,7 +32,7 @@ module _ (set name text : List ℕ) (row : Row) where
         | inr none ↦ absurd (in_none f.0 none)
       ]
 
-  fails : holds (is_text text) row ≡ false → IsFailed (checking set name text) (act 1 (K.Check name (is_text text)) 2) 0 (check_record name row)
+  pub fails : holds (is_text text) row ≡ false → IsFailed (checking set name text) (act 1 (K.Check name (is_text text)) 2) 0 (check_record name row)
   fails e = record {
     before = take_first Open ∷ take_first (Rows (row ∷ [])) ∷ [];
     behind = take_first Close ∷ [];

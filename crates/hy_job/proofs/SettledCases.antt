@@ -25,7 +25,7 @@ dealt_from [] k = refl
 dealt_from (r ∷ rows) k =
     rw (mod-one k) (ap (λ xs. r ∷ xs) (dealt_from rows (k + 1)))
 
-dealt_whole : (rows : List Row) → dealt 1 0 rows ≡ rows
+pub dealt_whole : (rows : List Row) → dealt 1 0 rows ≡ rows
 dealt_whole rows = dealt_from rows 0
 
 module _ (set : List ℕ) (rows : List Row) (on : List Row) where

@@ -12,3 +12,4 @@ pub mod Drivers
 pub mod RunLaws
 pub mod Cases
 pub mod SettledCases
+pub mod RunCases

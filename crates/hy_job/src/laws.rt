@@ -3,10 +3,11 @@ ghost use Rattle.hy_job.specs.Boxes.{BoxesAreReached, BoxesHaveOrigins, OriginsA
 ghost use Rattle.hy_job.specs.Cases.{BlockIsNeeded, BuildComesFirst, GroupingIsSound, JoiningHasFourStages, JoiningIsSound, NullHasNoPartner, ReadingIsSound, SortingHasTwoStages, SortingIsSound, StatesAreJoined, StatesHaveFields};
 ghost use Rattle.hy_job.specs.Drivers.{NewDriversGive};
 ghost use Rattle.hy_job.specs.Exchange.{WiresExchange};
+ghost use Rattle.hy_job.specs.RunCases.{CheckPasses, FirstGathers, HashHasTwoBoxes, LimitSkips, MergeHasTwoBoxes, NoneOfNone, PartIsFront, RaisedInStage, RowEndsPart, ScanIsDealt, StretchesHaveRows, ThirdTask, UnionHasBoth, WordsEnd, WordsMay};
 ghost use Rattle.hy_job.specs.RunLaws.{ProbesMove, RunsFit};
 ghost use Rattle.hy_job.specs.Runs.{FreeOutputs};
 ghost use Rattle.hy_job.specs.Settled.{FailsAtLast, PassesAtLast, StopsByFaults};
-ghost use Rattle.hy_job.specs.SettledCases.{CheckFails, ListingSettles};
+ghost use Rattle.hy_job.specs.SettledCases.{CheckFails, FailCompletesNone, FailStops, HashSettles, ListingSettles, NobodySends, NoneStopsAlone, SortIsHanded, SortSettles};
 ghost use Rattle.hy_job.specs.Rest.{ContinuesThen, FreeAlive, FreeContinues, FreeFinished, HeldAlive, HeldContinues, HeldFinished, IdleContinues, InOrderAlive, InOrderContinues, InOrderFinished, NoneIsOpen};
 
 /// The present state of a task, or of a part of one, as the laws see it.
@@ -99,4 +100,35 @@ pub fn job_cases()
     ensures null_alone { NullHasNoPartner }
     ensures settled { ListingSettles }
     ensures check_fails { CheckFails }
+{}
+
+/// What small activities make, what tasks may put as they go on, and how mailboxes are numbered.
+/// It does nothing: its clauses are worked cases.
+pub fn run_cases()
+    ensures limit_skips { LimitSkips }
+    ensures union_has_both { UnionHasBoth }
+    ensures scan_is_dealt { ScanIsDealt }
+    ensures stretches_have_rows { StretchesHaveRows }
+    ensures none_of_none { NoneOfNone }
+    ensures words_end { WordsEnd }
+    ensures words_may { WordsMay }
+    ensures first_gathers { FirstGathers }
+    ensures raised_in_stage { RaisedInStage }
+    ensures check_passes { CheckPasses }
+    ensures part_is_front { PartIsFront }
+    ensures row_ends_part { RowEndsPart }
+    ensures hash_boxes { HashHasTwoBoxes }
+    ensures merge_boxes { MergeHasTwoBoxes }
+    ensures third_task { ThirdTask }
+{}
+
+/// Which records of tasks fit together. It does nothing: its clauses are worked cases.
+pub fn record_cases()
+    ensures nobody_sends { NobodySends }
+    ensures none_stops_alone { NoneStopsAlone }
+    ensures fail_stops { FailStops }
+    ensures fail_completes_none { FailCompletesNone }
+    ensures hash_settles { HashSettles }
+    ensures sort_settles { SortSettles }
+    ensures sort_is_handed { SortIsHanded }
 {}
