@@ -18,7 +18,6 @@ pub mod NestedPieces
 pub mod NestedDistinct
 pub mod NestedValid
 pub mod PieceColumns
-pub mod PieceNested
 pub mod PieceJoin
 pub mod PieceShapes
 pub mod PieceForms

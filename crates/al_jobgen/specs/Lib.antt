@@ -1,3 +1,4 @@
+pub mod Opens
 pub mod Columns
 pub mod JobOf
 pub mod Agree

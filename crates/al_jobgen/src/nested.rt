@@ -20,7 +20,7 @@ fn boxed_of(alloc: Global, given: &[Var], p: &Plan) -> Result<Boxed<NestedPlan>,
 
 /// A nested plan over columns, where `nested` has rows of these variables.
 #[cycle(nested_of)]
-#[tactic(auto, using(crate::proofs::PieceNested::nested_laws))]
+#[tactic(auto, unfolding(crate::specs::Columns::nested_of, crate::specs::Opens::plan_shape, crate::specs::Opens::plan_hidden, crate::specs::Opens::row_hidden))]
 pub fn nested_of(alloc: Global, given: &[Var], p: &Plan) -> Result<NestedPlan, NoMemory>
     ensures { IfOk result (λ n. n ≡ spec.nested_of given.now p.now) }
 {
@@ -89,7 +89,7 @@ pub fn nested_of(alloc: Global, given: &[Var], p: &Plan) -> Result<NestedPlan, N
 }
 
 /// The aggregates of a nested plan.
-#[tactic(auto, using(crate::proofs::PieceNested::aggs_laws))]
+#[tactic(auto, unfolding(crate::specs::Opens::plan_shape, crate::specs::Opens::plan_hidden, crate::specs::Opens::row_hidden))]
 pub fn aggs_of(alloc: Global, p: &Plan) -> Result<List<Agg>, NoMemory>
     ensures { IfOk result (λ aggs. aggs ≡ spec.aggs_of p.now) }
 {

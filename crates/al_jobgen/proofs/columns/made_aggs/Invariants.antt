@@ -1,4 +1,4 @@
-use Rattle.std.proofs.Common.{◌≡◌, map, take}
+use Rattle.std.proofs.Common.{◌≡◌, take}
 use Rattle.al_jobgen.specs.Columns.{made_aggs}
 use Rattle.al_jobgen.proofs.columns.made_aggs.Given as goal
 

@@ -1,4 +1,4 @@
-use Rattle.std.proofs.Common.{◌≡◌, map, take}
+use Rattle.std.proofs.Common.{◌≡◌, take}
 use Rattle.al_jobgen.specs.Columns.{made_rexes}
 use Rattle.al_jobgen.proofs.columns.made_rexes.Given as goal
 
