@@ -32,3 +32,5 @@ pub mod SoundSteps
 pub mod SoundGroups
 pub mod SoundJoins
 pub mod SoundPlaced
+pub mod Literals
+pub mod LiteralCases

@@ -5,3 +5,5 @@ pub mod Agree
 pub mod Parts
 pub mod Shapes
 pub mod Added
+pub mod Literals
+pub mod LiteralCases
