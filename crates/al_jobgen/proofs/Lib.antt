@@ -18,7 +18,6 @@ pub mod NestedPieces
 pub mod NestedDistinct
 pub mod NestedValid
 pub mod PieceColumns
-pub mod PieceNested
 pub mod PieceJoin
 pub mod PieceShapes
 pub mod PieceForms
@@ -33,3 +32,5 @@ pub mod SoundSteps
 pub mod SoundGroups
 pub mod SoundJoins
 pub mod SoundPlaced
+pub mod Literals
+pub mod LiteralCases

@@ -25,9 +25,8 @@ use Rattle.al_phys.specs.Gives.{joined, AreStretches, IsNested, IsGrouped, IsPre
 use Rattle.al_phys.specs.Parts.{values_at, part_of, Interleaves}
 use Rattle.al_phys.specs.Properties.{old_of}
 use Rattle.al_phys.specs.Placed.{IsInner, is_row_wise}
-use Rattle.hy_job.specs.declared.nested.NestedPlan.{NestedPlan, out-NestedPlan, fold-NestedPlan}
-use Rattle.hy_job.specs.declared.nested.NestedPlan.TheOpen.{NestedPlan-F}
-use Rattle.hy_job.specs.declared.nested.NestedPlan.TheOpen as N
+use Rattle.hy_job.specs.declared.nested.NestedPlan.{NestedPlan, more_of-NestedPlan as Is, end_of-NestedPlan as At}
+use Rattle.hy_job.specs.declared.nested.NestedPlan.TheVariants.{Nested, Assign', Select', Project', Unnest', Order', Distinct', Limit', Aggregate'}
 use Rattle.hy_job.specs.declared.nested.AggRex.{AggRex}
 use Rattle.hy_job.specs.declared.nested.AggRex.TheVariants as AR
 use Rattle.hy_job.specs.declared.nested.GenRex.{GenRex}
@@ -181,12 +180,9 @@ abbrev pub AreTaken : List AggRex → List Row → Type 0
 AreTaken made rows = AllByRecursion (λ a. All IsValue (C.agg_values a rows)) made
 
 -- so are those of the aggregates of a row-wise nested plan
-abbrev pub values_root : NestedPlan-F NestedPlan → List Row → Type 0
-values_root (N.Aggregate made p) rows = AreTaken made (H.chain_rows p rows)
-values_root _ rows = Unit {0}
-
 abbrev pub HaveValues : NestedPlan → List Row → Type 0
-HaveValues n = values_root (out-NestedPlan n)
+HaveValues (Aggregate' made _ (Is p At)) rows = AreTaken made (H.chain_rows p rows)
+HaveValues _ rows = Unit {0}
 
 -- the joined states of pieces give the nested plan's row over all their rows
 abbrev pub StatesJoin : Type 0
@@ -279,19 +275,16 @@ agg_literals (AR.Min e) = literals e
 agg_literals (AR.Max e) = literals e
 
 -- the literals of a nested plan
-abbrev pub n_literals_step : NestedPlan-F (List Value) → List Value
-n_literals_step N.Nested = []
-n_literals_step (N.Assign made p) = flat_map literals made ++ p
-n_literals_step (N.Select c p) = literals c ++ p
-n_literals_step (N.Project columns p) = p
-n_literals_step (N.Unnest g p) = gen_literals g ++ p
-n_literals_step (N.Order keys p) = p
-n_literals_step (N.Distinct p) = p
-n_literals_step (N.Limit n k p) = p
-n_literals_step (N.Aggregate made p) = flat_map agg_literals made ++ p
-
-unfoldable pub n_literals : NestedPlan → List Value
-n_literals = fold-NestedPlan (List Value) n_literals_step
+abbrev pub n_literals : NestedPlan → List Value
+n_literals Nested = []
+n_literals (Assign' made _ (Is p At)) = flat_map literals made ++ n_literals p
+n_literals (Select' c _ (Is p At)) = literals c ++ n_literals p
+n_literals (Project' columns _ (Is p At)) = n_literals p
+n_literals (Unnest' g _ (Is p At)) = gen_literals g ++ n_literals p
+n_literals (Order' keys _ (Is p At)) = n_literals p
+n_literals (Distinct' _ (Is p At)) = n_literals p
+n_literals (Limit' n k _ (Is p At)) = n_literals p
+n_literals (Aggregate' made _ (Is p At)) = flat_map agg_literals made ++ n_literals p
 
 -- over rows of values, aggregates whose literals are values are taken over values
 abbrev pub TakenAreValues : Type 0
