@@ -4,8 +4,6 @@ pub mod ColumnLaws
 pub mod ColumnRows
 pub mod ColumnParts
 pub mod ColumnMaps
-pub mod ColumnTexts
-pub mod ColumnValid
 pub mod ColumnJoins
 pub mod ColumnGroups
 pub mod NestedOpen

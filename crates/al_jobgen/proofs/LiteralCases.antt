@@ -6,7 +6,8 @@ use Rattle.al_value.specs.declared.value.Value.TheVariants as V
 use Rattle.al_value.specs.Value.{IsValue}
 use Rattle.al_func.specs.declared.rex.Rex.TheVariants as R
 use Rattle.al_jobgen.specs.Opens.{nested_shape, nested_hidden, row_hidden}
-use Rattle.al_jobgen.specs.Agree.{AreValues, literals, n_literals}
+use Rattle.hy_job.specs.Literals.{literals, n_literals}
+use Rattle.hy_job.specs.Columns.{AreValues}
 use Rattle.al_jobgen.specs.LiteralCases.{grouped, ValuesInBoth, TooLargeInSecond, TooLargeInNested}
 use Rattle.al_jobgen.proofs.ColumnLists.{all_halves}
 use Rattle.al_jobgen.proofs.Literals.{literals-Lit, lit_values, both_values}

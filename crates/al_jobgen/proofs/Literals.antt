@@ -13,8 +13,10 @@ use Rattle.hy_job.specs.declared.job.Activity.{Activity}
 use Rattle.hy_job.specs.declared.job.Edge.{Edge}
 use Rattle.hy_job.specs.declared.job.Block.{Block}
 use Rattle.al_jobgen.specs.Added.{Added}
-use Rattle.al_jobgen.specs.Agree.{literals, literals_step, AreValues}
-use Rattle.al_jobgen.specs.Literals.{HaveValueLiterals, kind_literals}
+use Rattle.hy_job.specs.Literals.{literals, literals_step}
+use Rattle.hy_job.specs.Columns.{AreValues}
+use Rattle.hy_job.specs.Literals.{kind_literals}
+use Rattle.al_jobgen.specs.Literals.{HaveValueLiterals}
 
 flat_same : (args : List Rex) → flat_map (λ a. a) (map literals args) ≡ flat_map literals args
 flat_same [] = refl

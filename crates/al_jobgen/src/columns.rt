@@ -3,7 +3,8 @@
 ghost use Rattle.std.specs.Prelude.{◌≡◌, IfOk, map, nat_eq};
 ghost use Rattle.std.specs.List.{flat_map, position};
 ghost use Rattle.std.specs.Cmp.Lexicographic.{pointwise};
-ghost use Rattle.al_jobgen.specs.Agree.{AreValues, agg_literals, gen_literals, literals};
+ghost use Rattle.hy_job.specs.Literals.{agg_literals, gen_literals, literals};
+ghost use Rattle.hy_job.specs.Columns.{AreValues};
 ghost use Rattle.al_jobgen.specs.Columns as spec;
 
 use al_agg::Agg;

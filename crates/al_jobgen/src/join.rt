@@ -9,7 +9,8 @@ ghost use Rattle.al_plan.specs.declared.expr.Expr.TheOpen as L;
 ghost use Rattle.al_conj.specs.Conj.{all_of};
 ghost use Rattle.al_phys.specs.Gives as forms;
 ghost use Rattle.al_phys.specs.Properties as equi;
-ghost use Rattle.al_jobgen.specs.Agree.{AreValues, literals};
+ghost use Rattle.hy_job.specs.Literals.{literals};
+ghost use Rattle.hy_job.specs.Columns.{AreValues};
 ghost use Rattle.al_jobgen.specs.Columns as spec;
 ghost use Rattle.al_jobgen.specs.Parts as parts;
 

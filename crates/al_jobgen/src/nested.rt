@@ -1,7 +1,8 @@
 //! Nested plans over columns.
 
 ghost use Rattle.std.specs.Prelude.{◌≡◌, IfOk};
-ghost use Rattle.al_jobgen.specs.Agree.{AreValues, n_literals};
+ghost use Rattle.hy_job.specs.Literals.{n_literals};
+ghost use Rattle.hy_job.specs.Columns.{AreValues};
 ghost use Rattle.al_jobgen.specs.Columns as spec;
 
 use crate::columns::{agg_kinds, columns_of, gen_rex, made_aggs, made_rexes, rex_of, sort_keys};

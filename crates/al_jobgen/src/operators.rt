@@ -9,8 +9,10 @@ ghost use Rattle.hy_job.specs.declared.job.Kind.TheVariants as K;
 ghost use Rattle.al_jobgen.specs.Columns as spec;
 ghost use Rattle.al_jobgen.specs.JobOf as steps;
 ghost use Rattle.al_jobgen.specs.Added.{activities_from, own_of};
-ghost use Rattle.al_jobgen.specs.Agree.{AreValues, literals};
-ghost use Rattle.al_jobgen.specs.Literals.{HaveValueLiterals, group_literals, kind_literals};
+ghost use Rattle.hy_job.specs.Literals.{literals};
+ghost use Rattle.hy_job.specs.Columns.{AreValues};
+ghost use Rattle.hy_job.specs.Literals.{group_literals, kind_literals};
+ghost use Rattle.al_jobgen.specs.Literals.{HaveValueLiterals};
 
 use crate::columns::{
     agg_kinds, columns_of, gen_rex, made_aggs, made_rexes, number, old_columns, rex_of, sort_keys,

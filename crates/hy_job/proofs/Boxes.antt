@@ -18,7 +18,7 @@ use Rattle.hy_job.specs.Boxes.{tasks_of, task_at, StageBox, senders_of, box_for,
 use Rattle.hy_job.proofs.Members.{no_bool, by_cases, in_here, in_there, in_none, in_cases, in_filter, from_filter, nat_same, any_from, any_to, rising_rest}
 use Rattle.hy_job.proofs.Pairs.{Pairwise, pairwise_filter, pairwise_weaker, pairwise_map, pairwise_flat_map, one_item, one_place, in_map, from_map, in_flat_map, from_flat_map, from_range, in_range, range_distinct, permutation_distinct, get_same, at_in, slice_at, slice_from, place_is}
 
-both : (a b : Bool) → a && b ≡ true → (a ≡ true) × (b ≡ true)
+pub both : (a b : Bool) → a && b ≡ true → (a ≡ true) × (b ≡ true)
 both true b e = (refl, e)
 both false b e = absurd (no_bool (sym e))
 

@@ -1,5 +1,6 @@
 pub mod Columns
 pub mod Nested
+pub mod Literals
 pub mod Sound
 pub mod Stages
 pub mod Finding

@@ -7,7 +7,8 @@ use Rattle.hy_job.specs.declared.job.Kind.TheVariants as K
 use Rattle.hy_job.specs.declared.job.JoinArg.{JoinArg}
 use Rattle.hy_job.specs.declared.job.Activity.{Activity}
 use Rattle.hy_job.specs.declared.job.Job.{Job}
-use Rattle.hy_job.specs.Columns.{Row}
+use Rattle.hy_job.specs.Columns.{Row, AreValues}
+use Rattle.hy_job.specs.Literals.{kind_literals}
 use Rattle.hy_job.specs.Sound.{SoundJob, is_second, width_in, handed_arity, blocks_into}
 use Rattle.hy_job.specs.Runs.{Took, Put, TaskRun, Output}
 
@@ -34,6 +35,16 @@ pub record EachMade (partitions : ℕ) (P : Row → Type 0) (made : List Row) (p
 -- then so is what it makes
 abbrev pub RunsFit : Type 0
 RunsFit = (job : Job) → SoundJob job → (a : Activity) → Contains job.activities a → (j : ℕ) (took : Took) (put : Put) → TakesFit job a took → (run : TaskRun job a j took put) → EachMade job.partitions (λ row. length row ≡ a.arity) run.made put
+
+-- what a task is given are values
+pub record TakesValues (a : Activity) (took : Took) : Type 0 where
+  pub rows : AllByRecursion (λ t. AreValues t.row) took.rows
+  pub scanned : is_scan a.kind ≡ true → AllByRecursion AreValues took.scanned
+  pub handed : is_second a.kind ≡ true → AllByRecursion AreValues took.handed
+
+-- then what it makes are values, where the literals of its expressions are
+abbrev pub RunsHaveValues : Type 0
+RunsHaveValues = (job : Job) (a : Activity) → AreValues (kind_literals a.kind) → (j : ℕ) (took : Took) (put : Put) → TakesValues a took → (run : TaskRun job a j took put) → EachMade job.partitions AreValues run.made put
 
 -- a probe's rows are the same whatever the order of what was handed
 abbrev pub ProbesMove : Type 0

@@ -4,7 +4,7 @@ ghost use Rattle.hy_job.specs.Cases.{BlockIsNeeded, BuildComesFirst, GroupingIsS
 ghost use Rattle.hy_job.specs.Drivers.{NewDriversGive};
 ghost use Rattle.hy_job.specs.Exchange.{WiresExchange};
 ghost use Rattle.hy_job.specs.RunCases.{CheckPasses, FirstGathers, HashHasTwoBoxes, LimitSkips, MergeHasTwoBoxes, NoneOfNone, PartIsFront, RaisedInStage, RowEndsPart, ScanIsDealt, StretchesHaveRows, ThirdTask, UnionHasBoth, WordsEnd, WordsMay};
-ghost use Rattle.hy_job.specs.RunLaws.{ProbesMove, RunsFit};
+ghost use Rattle.hy_job.specs.RunLaws.{ProbesMove, RunsFit, RunsHaveValues};
 ghost use Rattle.hy_job.specs.Runs.{FreeOutputs};
 ghost use Rattle.hy_job.specs.Settled.{FailsAtLast, PassesAtLast, StopsByFaults};
 ghost use Rattle.hy_job.specs.SettledCases.{CheckFails, FailCompletesNone, FailStops, HashSettles, ListingSettles, NobodySends, NoneStopsAlone, SortIsHanded, SortSettles};
@@ -46,11 +46,13 @@ pub fn rest_laws<F, A, Old: Resting<F, A>, New: Resting<F, A>, Last: Resting<F, 
 
 /// The rows of an activity without an order of its own may come in any order, those of a probe
 /// whatever the order of what it was handed; and the rows that a task of a sound job makes have as
-/// many values as its activity says. It does nothing: its clauses speak of every activity.
+/// many values as its activity says, and are values where those that it takes are. It does nothing:
+/// its clauses speak of every activity.
 pub fn output_laws()
     ensures free { FreeOutputs }
     ensures probes { ProbesMove }
     ensures fit { RunsFit }
+    ensures values { RunsHaveValues }
 {}
 
 /// A new driver gives what its activity makes. It does nothing: its clause speaks of every

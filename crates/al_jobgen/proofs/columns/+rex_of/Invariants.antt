@@ -1,6 +1,7 @@
 use Rattle.std.proofs.Common.{◌≡◌, map, take, flat_map}
 use Rattle.al_jobgen.specs.Columns.{rex_of}
-use Rattle.al_jobgen.specs.Agree.{AreValues, literals}
+use Rattle.hy_job.specs.Literals.{literals}
+use Rattle.hy_job.specs.Columns.{AreValues}
 use Rattle.al_jobgen.proofs.columns.+rex_of.Given as goal
 
 abbrev pub invariant-rexes_of-loop-e : goal.invariant-rexes_of-loop-e

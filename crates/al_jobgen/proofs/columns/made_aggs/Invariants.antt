@@ -1,6 +1,7 @@
 use Rattle.std.proofs.Common.{◌≡◌, take, flat_map}
 use Rattle.al_jobgen.specs.Columns.{made_aggs}
-use Rattle.al_jobgen.specs.Agree.{AreValues, agg_literals}
+use Rattle.hy_job.specs.Literals.{agg_literals}
+use Rattle.hy_job.specs.Columns.{AreValues}
 use Rattle.al_jobgen.proofs.columns.made_aggs.Given as goal
 
 abbrev pub invariant-loop-call : goal.invariant-loop-call

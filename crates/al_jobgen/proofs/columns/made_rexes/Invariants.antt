@@ -1,6 +1,7 @@
 use Rattle.std.proofs.Common.{◌≡◌, take, flat_map}
 use Rattle.al_jobgen.specs.Columns.{made_rexes}
-use Rattle.al_jobgen.specs.Agree.{AreValues, literals}
+use Rattle.hy_job.specs.Literals.{literals}
+use Rattle.hy_job.specs.Columns.{AreValues}
 use Rattle.al_jobgen.proofs.columns.made_rexes.Given as goal
 
 abbrev pub invariant-loop-e : goal.invariant-loop-e
