@@ -4,7 +4,8 @@ use Rattle.std.specs.List.Sorted.{IsPermutation, IsSorted}
 use Rattle.hy_job.specs.declared.job.Kind.{Kind}
 use Rattle.hy_job.specs.declared.job.Kind.TheVariants as K
 use Rattle.hy_job.specs.Columns.{Row, dealt, keys_cmp, state_row, joined}
-use Rattle.hy_job.specs.Runs.{AreJoined, IsGroupOf, Output}
+use Rattle.hy_job.specs.Runs.{AreJoined, IsGroupOf, Output, is_free}
+use Rattle.hy_job.specs.Rest.{AnyOrder}
 
 -- the rows of an input, of those that a driver takes
 abbrev pub received_of : List (ℕ × Row) → ℕ → List Row
@@ -75,3 +76,7 @@ all_left kind n j scanned handed = record { skip = skip_first kind; give = give_
 abbrev pub NewDriversGive : Type 0
 NewDriversGive = (kind : Kind) (arity n j : ℕ) (scanned handed : List Row) (received : ℕ → List Row) (out : List Row)
     → left_out kind arity (all_left kind n j scanned handed) received out ↔ Output kind arity n j received scanned handed out
+
+-- where rows may come in any order, a driver's may
+abbrev pub DriversMove : Type 0
+DriversMove = (kind : Kind) (arity : ℕ) (left : Left) → is_free kind ≡ true → AnyOrder (driver_out kind arity left)

@@ -9,10 +9,12 @@ use Rattle.hy_job.specs.declared.job.Job.{Job}
 use Rattle.al_agg.specs.declared.agg.Agg.TheVariants as A
 use Rattle.hy_job.specs.Columns.{Row, cut, holds, state_row, Group, AreStretches}
 use Rattle.hy_job.specs.Runs.{Took, Put, Output, IsReceiver, TaskPart}
-use Rattle.hy_job.specs.Settled.{Open, Rows, Fail, Close, WriterWord, IsWordSoFar, IsCompleted, TaskRecord, Records, Completed, IsRaisedBeside}
+use Rattle.hy_job.specs.Settled.{Open, Rows, Fail, Close, WriterWord, IsWordSoFar, IsCompleted, IsFailedSoFar, IsLiveSoFar, TaskRecord, Records, Completed, IsRaisedBeside}
+use Rattle.al_value.specs.declared.settings.SortKey.{SortKey}
+use Rattle.hy_job.specs.Drivers.{Left, received_of, driver_out}
 use Rattle.hy_job.specs.Boxes.{StageBox, boxes_of, box_to, task_of, task_at}
 use Rattle.hy_job.specs.Cases.{act, wire, block, stage, row_of, is_text, sorting, reading, grouping}
-use Rattle.hy_job.specs.SettledCases.{listing, checking, take_first}
+use Rattle.hy_job.specs.SettledCases.{listing, checking, take_first, check_record}
 
 -- ---- what activities make
 
@@ -127,6 +129,45 @@ counted_none = record { to = λ r. if nat_eq r 0 then state_row (C.CountAll ∷ 
 abbrev pub RowEndsPart : Type 0
 RowEndsPart = (set : List ℕ) → (TaskPart (totalling set) (act 1 (K.AggPart (C.CountAll ∷ [])) 2) 1 none_ended (took_first []) counted_none → ⊥)
     × TaskPart (totalling set) (act 1 (K.AggPart (C.CountAll ∷ [])) 2) 1 (λ input sender. nat_eq sender 1) (took_first []) counted_none
+
+-- ---- drivers on their way
+
+-- what a driver takes is told apart by its input
+abbrev pub InputsApart : Type 0
+InputsApart = received_of ((0, row_of 1) ∷ (1, row_of 2) ∷ (0, row_of 3) ∷ []) 0 ≡ row_of 1 ∷ row_of 3 ∷ []
+
+abbrev pub left_of : ℕ → ℕ → List Row → Bool → Left
+left_of skip give handed last = record { skip = skip; give = give; own = []; handed = handed; last = last }
+
+-- a limit of two behind one that has skipped its row and given one gives one more
+abbrev pub LimitGoesOn : Type 0
+LimitGoesOn = (out : List Row) → driver_out (K.Limit 2 1) 1 (left_of 0 1 [] false) ((0, row_of 2) ∷ (0, row_of 3) ∷ []) out ↔ (out ≡ row_of 2 ∷ [])
+
+-- a sort that has given all its rows but one gives that one
+abbrev pub EmitsWhatIsLeft : Type 0
+EmitsWhatIsLeft = (keys : List SortKey) (out : List Row) → driver_out (K.SortEmit keys) 1 (left_of 0 0 (row_of 2 ∷ []) false) [] out ↔ (out ≡ row_of 2 ∷ [])
+
+-- the row of partial states comes once
+abbrev pub LastRowOnce : Type 0
+LastRowOnce = (out : List Row) → (driver_out (K.AggPart (C.CountAll ∷ [])) 2 (left_of 0 0 [] true) [] out ↔ (out ≡ state_row (C.CountAll ∷ []) [] ∷ []))
+    × (driver_out (K.AggPart (C.CountAll ∷ [])) 2 (left_of 0 0 [] false) [] out ↔ (out ≡ []))
+
+-- ---- tasks on their way
+
+-- a check that took one row and failed, and has put its Open
+abbrev pub failing_record : List ℕ → Row → TaskRecord
+failing_record name row = record (check_record name row) { took = take_first Open ∷ take_first (Rows (row ∷ [])) ∷ []; put = λ r. Open ∷ [] }
+
+-- it has failed so far exactly where the condition is not TRUE on the row, if it owes a Fail and a Close, and not if it owes a Close alone
+abbrev pub FailedSoFar : Type 0
+FailedSoFar = (set name text : List ℕ) (row : Row)
+    → (IsFailedSoFar (checking set name text) (act 1 (K.Check name (is_text text)) 2) 0 (failing_record name row) (λ r. Fail ∷ Close ∷ []) ↔ (holds (is_text text) row ≡ false))
+    × (IsFailedSoFar (checking set name text) (act 1 (K.Check name (is_text text)) 2) 0 (failing_record name row) (λ r. Close ∷ []) → ⊥)
+
+-- a check that took one row: while it has still to work on it nothing is known of the row, and then its condition is TRUE there
+abbrev pub LiveSoFar : Type 0
+LiveSoFar = (set name text : List ℕ) (row : Row) → IsLiveSoFar (checking set name text) (act 1 (K.Check name (is_text text)) 2) 0 (passing_record row) (row ∷ [])
+    × (IsLiveSoFar (checking set name text) (act 1 (K.Check name (is_text text)) 2) 0 (passing_record row) [] ↔ (holds (is_text text) row ≡ true))
 
 -- ---- numbers
 

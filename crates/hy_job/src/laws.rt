@@ -1,9 +1,9 @@
 ghost use Rattle.std.specs.Prelude.{List};
 ghost use Rattle.hy_job.specs.Boxes.{BoxesAreReached, BoxesHaveOrigins, OriginsAreOneToOne, ReceiversHaveBoxes, TasksAreNumbered};
 ghost use Rattle.hy_job.specs.Cases.{BlockIsNeeded, BuildComesFirst, GroupingIsSound, JoiningHasFourStages, JoiningIsSound, NullHasNoPartner, ReadingIsSound, SortingHasTwoStages, SortingIsSound, StatesAreJoined, StatesHaveFields};
-ghost use Rattle.hy_job.specs.Drivers.{NewDriversGive};
+ghost use Rattle.hy_job.specs.Drivers.{DriversMove, NewDriversGive};
 ghost use Rattle.hy_job.specs.Exchange.{WiresExchange};
-ghost use Rattle.hy_job.specs.RunCases.{CheckPasses, FirstGathers, HashHasTwoBoxes, LimitSkips, MergeHasTwoBoxes, NoneOfNone, PartIsFront, RaisedInStage, RowEndsPart, ScanIsDealt, StretchesHaveRows, ThirdTask, UnionHasBoth, WordsEnd, WordsMay};
+ghost use Rattle.hy_job.specs.RunCases.{CheckPasses, EmitsWhatIsLeft, FailedSoFar, FirstGathers, HashHasTwoBoxes, InputsApart, LastRowOnce, LimitGoesOn, LimitSkips, LiveSoFar, MergeHasTwoBoxes, NoneOfNone, PartIsFront, RaisedInStage, RowEndsPart, ScanIsDealt, StretchesHaveRows, ThirdTask, UnionHasBoth, WordsEnd, WordsMay};
 ghost use Rattle.hy_job.specs.RunLaws.{ProbesMove, RunsFit, RunsHaveValues};
 ghost use Rattle.hy_job.specs.Runs.{FreeOutputs};
 ghost use Rattle.hy_job.specs.Settled.{FailsAtLast, PassesAtLast, StopsByFaults};
@@ -55,10 +55,11 @@ pub fn output_laws()
     ensures values { RunsHaveValues }
 {}
 
-/// A new driver gives what its activity makes. It does nothing: its clause speaks of every
-/// activity.
+/// A new driver gives what its activity makes, and where rows have no order of their own, a
+/// driver's may come in any. It does nothing: its clauses speak of every activity.
 pub fn driver_laws()
-    ensures { NewDriversGive }
+    ensures new { NewDriversGive }
+    ensures moved { DriversMove }
 {}
 
 /// What is known of a task as far as it has come is what its record needs at the end, and where a
@@ -119,6 +120,12 @@ pub fn run_cases()
     ensures check_passes { CheckPasses }
     ensures part_is_front { PartIsFront }
     ensures row_ends_part { RowEndsPart }
+    ensures received { InputsApart }
+    ensures limit_goes_on { LimitGoesOn }
+    ensures emits_what_is_left { EmitsWhatIsLeft }
+    ensures last_row { LastRowOnce }
+    ensures failed_so_far { FailedSoFar }
+    ensures live_so_far { LiveSoFar }
     ensures hash_boxes { HashHasTwoBoxes }
     ensures merge_boxes { MergeHasTwoBoxes }
     ensures third_task { ThirdTask }

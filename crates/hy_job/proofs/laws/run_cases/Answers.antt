@@ -1,5 +1,6 @@
 use Rattle.hy_job.proofs.RunCases.{limit_skips, union_has_both, scan_is_dealt, stretches_have_rows, none_of_none, words_end, words_may, first_gathers, raised_in_stage, hash_boxes, merge_boxes, third_task}
 use Rattle.hy_job.proofs.PartCases.{check_passes, part_is_front, row_ends_part}
+use Rattle.hy_job.proofs.WayCases.{received, limit_goes_on, emits_what_is_left, last_row, failed_so_far, live_so_far}
 use Rattle.hy_job.proofs.laws.run_cases.Goals as goal
 
 pub returns-clause-limit_skips : goal.returns-clause-limit_skips
@@ -46,3 +47,21 @@ returns-clause-part_is_front c = part_is_front
 
 pub returns-clause-row_ends_part : goal.returns-clause-row_ends_part
 returns-clause-row_ends_part c = row_ends_part
+
+pub returns-clause-received : goal.returns-clause-received
+returns-clause-received c = received
+
+pub returns-clause-limit_goes_on : goal.returns-clause-limit_goes_on
+returns-clause-limit_goes_on c = limit_goes_on
+
+pub returns-clause-emits_what_is_left : goal.returns-clause-emits_what_is_left
+returns-clause-emits_what_is_left c = emits_what_is_left
+
+pub returns-clause-last_row : goal.returns-clause-last_row
+returns-clause-last_row c = last_row
+
+pub returns-clause-failed_so_far : goal.returns-clause-failed_so_far
+returns-clause-failed_so_far c = failed_so_far
+
+pub returns-clause-live_so_far : goal.returns-clause-live_so_far
+returns-clause-live_so_far c = live_so_far
