@@ -5,7 +5,7 @@ use Rattle.std.proofs.Common.{◌≡◌, refl, sym, ◌∙◌, ap, arith, rules}
 use Rattle.std.proofs.lemmas.Int.{ints, of_z-to_z, to_z-of_z}
 use Rattle.al_agg.specs.Part.{high_half, low_half}
 
-bits_64-lt : (z : ℤ) → FitsSigned w64 z → cast_unsigned w64 z < 2 ^ 64
+pub bits_64-lt : (z : ℤ) → FitsSigned w64 z → cast_unsigned w64 z < 2 ^ 64
 bits_64-lt (pos n) fits = omega (arith, ints, fits)
 bits_64-lt (negsuc n) fits = omega (arith, ints, fits)
 
@@ -19,7 +19,7 @@ upper h l low = omega arith
 lower : (h l : ℕ) → l < 2 ^ 64 → (h * 2 ^ 64 + l) % 2 ^ 64 ≡ l
 lower h l low = omega arith
 
-both : (h l : ℕ) → h < 2 ^ 64 → l < 2 ^ 64 → h * 2 ^ 64 + l < 2 ^ 128
+pub both : (h l : ℕ) → h < 2 ^ 64 → l < 2 ^ 64 → h * 2 ^ 64 + l < 2 ^ 128
 both h l high low = omega arith
 
 -- the number of two halves has these halves

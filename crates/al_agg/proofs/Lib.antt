@@ -2,3 +2,4 @@ pub mod AggLaws
 pub mod HalfLaws
 pub mod PartLaws
 pub mod FieldLaws
+pub mod ListLaws

@@ -1,2 +1,3 @@
 pub mod Agg
 pub mod Part
+pub mod Lists

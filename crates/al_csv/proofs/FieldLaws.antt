@@ -65,7 +65,7 @@ value_is (b ∷ rest) h =
       ]
     ]
 
-fits_is : (z : ℤ) → fits_int z ≡ true → FitsSigned w64 z
+pub fits_is : (z : ℤ) → fits_int z ≡ true → FitsSigned w64 z
 fits_is (pos n) h = record { sfits = ltb-true n (2 ^ 63) h }
 fits_is (negsuc n) h = record { sfits = ltb-true n (2 ^ 63) h }
 

@@ -5,3 +5,4 @@ pub mod GeneratedRows
 pub mod Rows
 pub mod Texts
 pub mod Walks
+pub mod ValueRows

@@ -1,4 +1,5 @@
 ghost use Rattle.std.specs.Prelude.{◌≡◌, All, IfErr, IfOk, length};
+ghost use Rattle.al_value.specs.Value.{IsValue};
 ghost use Rattle.al_csv.specs.Records.{Tells, records};
 
 use crate::decl::Decl;
@@ -15,6 +16,7 @@ pub fn load(alloc: Global, decl: &Decl, bytes: &[u8]) -> Result<List<Row>, LoadR
     ensures rows { IfOk result (λ rows. records decl.now.columns bytes.now ≡ Ok rows) }
     ensures bad { IfErr result (Tells (records decl.now.columns bytes.now)) }
     ensures wide { IfOk result (All (λ row. length row ≡ length decl.now.columns)) }
+    ensures values { IfOk result (All (All IsValue)) }
 {
     let mut reader = ReaderBuilder::new()
         .has_headers(false)

@@ -4,8 +4,6 @@ pub mod ColumnLaws
 pub mod ColumnRows
 pub mod ColumnParts
 pub mod ColumnMaps
-pub mod ColumnTexts
-pub mod ColumnValid
 pub mod ColumnJoins
 pub mod ColumnGroups
 pub mod NestedOpen
@@ -18,7 +16,6 @@ pub mod NestedPieces
 pub mod NestedDistinct
 pub mod NestedValid
 pub mod PieceColumns
-pub mod PieceNested
 pub mod PieceJoin
 pub mod PieceShapes
 pub mod PieceForms
@@ -33,3 +30,5 @@ pub mod SoundSteps
 pub mod SoundGroups
 pub mod SoundJoins
 pub mod SoundPlaced
+pub mod Literals
+pub mod LiteralCases

@@ -1,116 +1,21 @@
 -- What row-wise nested plans take their aggregates over are values, where the rows and the literals are.
-use Rattle.std.proofs.Common.{◌≡◌, ℕ, Bool, true, false, cond, List, [], ◌∷◌, ◌++◌, map, filter, flat_map, refl, ap, sym, subst}
-use Rattle.std.specs.Prelude.{ℤ, pos, FitsSigned, if◌then◌else◌, length}
-use Rattle.std.specs.Int.{w64}
+use Rattle.std.proofs.Common.{List, [], ◌∷◌, flat_map}
 use Rattle.std.specs.List.{AllByRecursion}
 use Rattle.std.proofs.lemmas.List.Elements.{All-from_recursion}
-use Rattle.al_value.specs.declared.value.Value.{Value}
-use Rattle.al_value.specs.declared.value.Value.TheVariants as V
 use Rattle.al_value.specs.Value.{IsValue}
-use Rattle.al_func.specs.declared.rex.Rex.{Rex}
-use Rattle.al_func.specs.Rex.{eval_rex}
-use Rattle.al_agg.specs.declared.agg.Agg.{Agg}
-use Rattle.al_agg.specs.declared.agg.Agg.TheVariants as G
-use Rattle.al_agg.specs.Agg.{agg, counted, wrapped, is_i64, sum_of, total, present, ints_of}
-use Rattle.al_agg.proofs.AggLaws.{least-valid, greatest-valid}
-use Rattle.al_phys.proofs.FlowLaws.{all_both}
-use Rattle.hy_job.specs.declared.nested.GenRex.{GenRex}
 use Rattle.hy_job.specs.declared.nested.AggRex.{AggRex}
-use Rattle.hy_job.specs.declared.nested.AggRex.TheVariants as A
-use Rattle.hy_job.specs.declared.nested.NestedPlan.{NestedPlan, map-NestedPlan, roll-NestedPlan, ind-NestedPlan, out-roll-NestedPlan, fold-roll-NestedPlan}
-use Rattle.hy_job.specs.declared.nested.NestedPlan.TheOpen as N
-use Rattle.hy_job.specs.Columns.{Row, holds, cut, assigned, expanded, items, agg_values}
-use Rattle.hy_job.specs.Nested.{chain_rows, chain_step}
-use Rattle.al_jobgen.specs.Agree.{literals, agg_literals, gen_literals, n_literals, n_literals_step, AreTaken, HaveValues, values_root, AreValues}
+use Rattle.hy_job.specs.declared.nested.NestedPlan.{NestedPlan, more_of-NestedPlan as Is, end_of-NestedPlan as At}
+use Rattle.hy_job.specs.declared.nested.NestedPlan.TheVariants.{Nested, Assign', Select', Project', Unnest', Order', Distinct', Limit', Aggregate'}
+use Rattle.al_jobgen.specs.Opens.{nested_shape, nested_hidden, row_hidden}
+use Rattle.hy_job.specs.Columns.{Row, agg_values}
+use Rattle.hy_job.specs.Nested.{chain_rows}
+use Rattle.hy_job.specs.Literals.{agg_literals, n_literals}
+use Rattle.hy_job.specs.Columns.{AreValues}
+use Rattle.al_jobgen.specs.Agree.{AreTaken, HaveValues}
 use Rattle.al_jobgen.proofs.ColumnLists.{all_halves}
-use Rattle.al_jobgen.proofs.ColumnValid.{eval_valid, items_valid, col_valid, fits_from}
-use Rattle.al_jobgen.proofs.NestedOpen.{chain_rows-roll}
-
--- ---- rows of values
-
-assigned_valid : (made : List Rex) → AllByRecursion IsValue (flat_map literals made) → (row : Row) → AreValues row → AllByRecursion IsValue (map (λ e. eval_rex e row) made)
-assigned_valid [] h row r = tt
-assigned_valid (e ∷ made) h row r = let both = all_halves IsValue (literals e) (flat_map literals made) h in (eval_valid e both.0 row r, assigned_valid made both.1 row r)
-
-rows_assigned : (made : List Rex) → AllByRecursion IsValue (flat_map literals made) → (rows : List Row) → AllByRecursion AreValues rows → AllByRecursion AreValues (map (assigned made) rows)
-rows_assigned made h [] r = tt
-rows_assigned made h (row ∷ rows) r = (all_both IsValue row (map (λ e. eval_rex e row) made) r.0 (assigned_valid made h row r.0), rows_assigned made h rows r.1)
-
-rows_kept : (p : Row → Bool) (rows : List Row) → AllByRecursion AreValues rows → AllByRecursion AreValues (filter p rows)
-rows_kept p [] r = tt
-rows_kept p (row ∷ rows) r = by (p row) (rows_kept p rows r.1)
-  where
-    by : (b : Bool) → AllByRecursion AreValues (filter p rows) → AllByRecursion AreValues (cond b (row ∷ filter p rows) (filter p rows))
-    by true h = (r.0, h)
-    by false h = h
-
-cut_valid : (columns : List ℕ) (row : Row) → AreValues row → AreValues (cut columns row)
-cut_valid [] row r = tt
-cut_valid (j ∷ columns) row r = (col_valid row j r, cut_valid columns row r)
-
-rows_cut : (columns : List ℕ) (rows : List Row) → AllByRecursion AreValues rows → AllByRecursion AreValues (map (cut columns) rows)
-rows_cut columns [] r = tt
-rows_cut columns (row ∷ rows) r = (cut_valid columns row r.0, rows_cut columns rows r.1)
-
-each_item : (row xs : Row) → AreValues row → AreValues xs → AllByRecursion AreValues (map (λ x. row ++ x ∷ []) xs)
-each_item row [] r h = tt
-each_item row (x ∷ xs) r h = (all_both IsValue row (x ∷ []) r (h.0, tt), each_item row xs r h.1)
-
-rows_expanded : (g : GenRex) → AllByRecursion IsValue (gen_literals g) → (rows : List Row) → AllByRecursion AreValues rows → AllByRecursion AreValues (flat_map (expanded g) rows)
-rows_expanded g h [] r = tt
-rows_expanded g h (row ∷ rows) r = all_both AreValues (expanded g row) (flat_map (expanded g) rows) (each_item row (items g row) r.0 (items_valid g h row r.0)) (rows_expanded g h rows r.1)
-
--- ---- chains
-
-n_literals-roll : (x : N.NestedPlan-F NestedPlan) → n_literals (roll-NestedPlan x) ≡ n_literals_step (map-NestedPlan NestedPlan (List Value) n_literals x)
-unfolding n_literals
-n_literals-roll x = fold-roll-NestedPlan (List Value) n_literals_step x
-
-opened : (x : N.NestedPlan-F NestedPlan) → AllByRecursion IsValue (n_literals (roll-NestedPlan x)) → AllByRecursion IsValue (n_literals_step (map-NestedPlan NestedPlan (List Value) n_literals x))
-opened x h = subst (AllByRecursion IsValue) (n_literals-roll x) h
-
-abbrev KeepsValues : NestedPlan → Type 0
-KeepsValues n = AllByRecursion IsValue (n_literals n) → (rows : List Row) → AllByRecursion AreValues rows → AllByRecursion AreValues (chain_rows n rows)
-
-kept_at : (x : N.NestedPlan-F NestedPlan) (rows : List Row) → AllByRecursion AreValues (chain_step (map-NestedPlan NestedPlan (List Row → List Row) chain_rows x) rows) → AllByRecursion AreValues (chain_rows (roll-NestedPlan x) rows)
-kept_at x rows h = subst (AllByRecursion AreValues) (ap (λ (f : List Row → List Row). f rows) (sym (chain_rows-roll x))) h
-
-layer_keeps : {S : Type 0} (up : S → NestedPlan) → ((s : S) → KeepsValues (up s)) → (y : N.NestedPlan-F S) → KeepsValues (roll-NestedPlan (map-NestedPlan S NestedPlan up y))
-layer_keeps up ih N.Nested h rows r = kept_at N.Nested rows r
-layer_keeps up ih (N.Assign made s) h rows r =
-    let both = all_halves IsValue (flat_map literals made) (n_literals (up s)) (opened (N.Assign made (up s)) h) in
-    kept_at (N.Assign made (up s)) rows (rows_assigned made both.0 (chain_rows (up s) rows) (ih s both.1 rows r))
-layer_keeps up ih (N.Select c s) h rows r =
-    let both = all_halves IsValue (literals c) (n_literals (up s)) (opened (N.Select c (up s)) h) in
-    kept_at (N.Select c (up s)) rows (rows_kept (holds c) (chain_rows (up s) rows) (ih s both.1 rows r))
-layer_keeps up ih (N.Project columns s) h rows r = kept_at (N.Project columns (up s)) rows (rows_cut columns (chain_rows (up s) rows) (ih s (opened (N.Project columns (up s)) h) rows r))
-layer_keeps up ih (N.Unnest g s) h rows r =
-    let both = all_halves IsValue (gen_literals g) (n_literals (up s)) (opened (N.Unnest g (up s)) h) in
-    kept_at (N.Unnest g (up s)) rows (rows_expanded g both.0 (chain_rows (up s) rows) (ih s both.1 rows r))
-layer_keeps up ih (N.Order keys s) h rows r = kept_at (N.Order keys (up s)) rows tt
-layer_keeps up ih (N.Distinct s) h rows r = kept_at (N.Distinct (up s)) rows tt
-layer_keeps up ih (N.Limit n k s) h rows r = kept_at (N.Limit n k (up s)) rows tt
-layer_keeps up ih (N.Aggregate made s) h rows r = kept_at (N.Aggregate made (up s)) rows tt
-
-keeps_values : (n : NestedPlan) → KeepsValues n
-keeps_values = ind-NestedPlan KeepsValues (λ x y e. subst (λ (z : N.NestedPlan-F NestedPlan). KeepsValues (roll-NestedPlan z)) e (layer_keeps (λ s. s.0) (λ s. s.1) y))
+use Rattle.hy_job.proofs.RowValues.{keeps_values, taken_valid}
 
 -- ---- aggregates
-
-each_null : (rows : List Row) → AllByRecursion IsValue (map (λ row. V.Null) rows)
-each_null [] = tt
-each_null (row ∷ rows) = (tt, each_null rows)
-
-each_value : (e : Rex) → AllByRecursion IsValue (literals e) → (rows : List Row) → AllByRecursion AreValues rows → AllByRecursion IsValue (map (eval_rex e) rows)
-each_value e h [] r = tt
-each_value e h (row ∷ rows) r = (eval_valid e h row r.0, each_value e h rows r.1)
-
-taken_valid : (a : AggRex) → AllByRecursion IsValue (agg_literals a) → (rows : List Row) → AllByRecursion AreValues rows → AllByRecursion IsValue (agg_values a rows)
-taken_valid A.CountAll h rows r = each_null rows
-taken_valid (A.Count e) h rows r = each_value e h rows r
-taken_valid (A.Sum e) h rows r = each_value e h rows r
-taken_valid (A.Min e) h rows r = each_value e h rows r
-taken_valid (A.Max e) h rows r = each_value e h rows r
 
 pub are_taken : (made : List AggRex) → AllByRecursion IsValue (flat_map agg_literals made) → (rows : List Row) → AllByRecursion AreValues rows → AreTaken made rows
 are_taken [] h rows r = tt
@@ -118,45 +23,15 @@ are_taken (a ∷ made) h rows r =
     let both = all_halves IsValue (agg_literals a) (flat_map agg_literals made) h in
     (All-from_recursion IsValue (agg_values a rows) (taken_valid a both.0 rows r), are_taken made both.1 rows r)
 
-abbrev Has : NestedPlan → Type 0
-Has n = AllByRecursion IsValue (n_literals n) → (rows : List Row) → AllByRecursion AreValues rows → HaveValues n rows
-
-has_at : (x : N.NestedPlan-F NestedPlan) (rows : List Row) → values_root x rows → HaveValues (roll-NestedPlan x) rows
-has_at x rows h = subst (λ (z : N.NestedPlan-F NestedPlan). values_root z rows) (sym (out-roll-NestedPlan x)) h
-
-layer_has : {S : Type 0} (up : S → NestedPlan) (y : N.NestedPlan-F S) → Has (roll-NestedPlan (map-NestedPlan S NestedPlan up y))
-layer_has up N.Nested h rows r = has_at N.Nested rows tt
-layer_has up (N.Assign made s) h rows r = has_at (N.Assign made (up s)) rows tt
-layer_has up (N.Select c s) h rows r = has_at (N.Select c (up s)) rows tt
-layer_has up (N.Project columns s) h rows r = has_at (N.Project columns (up s)) rows tt
-layer_has up (N.Unnest g s) h rows r = has_at (N.Unnest g (up s)) rows tt
-layer_has up (N.Order keys s) h rows r = has_at (N.Order keys (up s)) rows tt
-layer_has up (N.Distinct s) h rows r = has_at (N.Distinct (up s)) rows tt
-layer_has up (N.Limit n k s) h rows r = has_at (N.Limit n k (up s)) rows tt
-layer_has up (N.Aggregate made s) h rows r =
-    let both = all_halves IsValue (flat_map agg_literals made) (n_literals (up s)) (opened (N.Aggregate made (up s)) h) in
-    has_at (N.Aggregate made (up s)) rows (are_taken made both.0 (chain_rows (up s) rows) (keeps_values (up s) both.1 rows r))
-
-pub have_values : (n : NestedPlan) → Has n
-have_values = ind-NestedPlan Has (λ x y e. subst (λ (z : N.NestedPlan-F NestedPlan). Has (roll-NestedPlan z)) e (layer_has (λ s. s.0) y))
-
--- ---- values of aggregates
-
-fitted_valid : (b : Bool) (z : ℤ) → (b ≡ true → FitsSigned w64 z) → IsValue (if b then V.Int z else V.Null)
-fitted_valid true z h = h refl
-fitted_valid false z h = tt
-
-counted_valid : (z : ℤ) → IsValue (counted z)
-counted_valid z = fitted_valid (is_i64 (wrapped z)) (wrapped z) (fits_from (wrapped z))
-
-sum_valid : (ns : List ℤ) → IsValue (sum_of ns)
-sum_valid [] = tt
-sum_valid (n ∷ ns) = counted_valid (total (n ∷ ns))
-
-pub agg_valid : (a : Agg) (vs : List Value) → AllByRecursion IsValue vs → IsValue (agg a vs)
-unfolding agg
-agg_valid G.CountAll vs h = counted_valid (pos (length vs))
-agg_valid G.Count vs h = counted_valid (pos (length (present vs)))
-agg_valid G.Sum vs h = sum_valid (ints_of vs)
-agg_valid G.Min vs h = least-valid vs (All-from_recursion IsValue vs h)
-agg_valid G.Max vs h = greatest-valid vs (All-from_recursion IsValue vs h)
+pub have_values : (n : NestedPlan) → AllByRecursion IsValue (n_literals n) → (rows : List Row) → AllByRecursion AreValues rows → HaveValues n rows
+unfolding nested_shape nested_hidden row_hidden
+have_values Nested h rows r = tt
+have_values (Assign' made _ (Is p At)) h rows r = tt
+have_values (Select' c _ (Is p At)) h rows r = tt
+have_values (Project' columns _ (Is p At)) h rows r = tt
+have_values (Unnest' g _ (Is p At)) h rows r = tt
+have_values (Order' keys _ (Is p At)) h rows r = tt
+have_values (Distinct' _ (Is p At)) h rows r = tt
+have_values (Limit' n k _ (Is p At)) h rows r = tt
+have_values (Aggregate' made _ (Is p At)) h rows r =
+    let both = all_halves IsValue (flat_map agg_literals made) (n_literals p) h in are_taken made both.0 (chain_rows p rows) (keeps_values p both.1 rows r)

@@ -1,12 +1,12 @@
 -- The piece of a job that each physical plan is, by its inputs and its own activities.
-use Rattle.std.proofs.Common.{◌≡◌, ℕ, suc, ◌<◌, ◌+◌, List, [], ◌∷◌, ◌++◌, length, refl, ap, sym, subst, ◌∙◌, arith, length-append}
+use Rattle.std.proofs.Common.{◌≡◌, ◌<◌, List, [], ◌∷◌, ◌++◌, length, refl, ap, sym, subst, ◌∙◌, arith, length-append}
 use Rattle.al_phys.specs.declared.phys.Phys.{Phys, map-Phys, roll-Phys, out-Phys, out-roll-Phys, rec-roll-Phys, ind-Phys}
 use Rattle.al_phys.specs.declared.phys.Phys.TheOpen as L
 use Rattle.al_phys.specs.Operators.{operators, below}
 use Rattle.al_phys.proofs.OperatorLaws.{operators-roll}
 use Rattle.al_phys.proofs.LiveLaws.{map_itself}
 use Rattle.hy_job.specs.declared.job.Wire.{Wire}
-use Rattle.al_jobgen.specs.JobOf.{Step, Piece, own_steps, wire_step, piece_by, piece_step, piece_of}
+use Rattle.al_jobgen.specs.JobOf.{Piece, own_steps, wire_step, piece_by, piece_step, piece_of}
 use Rattle.al_jobgen.specs.Shapes.{Form, Source, Over, Both, form, form_piece}
 use Rattle.al_jobgen.specs.Added.{own_of}
 

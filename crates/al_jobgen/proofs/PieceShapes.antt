@@ -1,5 +1,5 @@
 -- The shape and the activities of each operator.
-use Rattle.std.proofs.Common.{◌≡◌, ℕ, Bool, List, [], ◌∷◌, ◌++◌, refl, ap, sym, ◌∙◌}
+use Rattle.std.proofs.Common.{◌≡◌, ℕ, List, ap}
 use Rattle.al_plan.specs.declared.expr.Var.{Var}
 use Rattle.al_plan.specs.declared.expr.Expr.{Expr}
 use Rattle.al_plan.specs.declared.plan.OrderKey.{OrderKey}
@@ -8,7 +8,7 @@ use Rattle.al_plan.specs.declared.plan.Generator.{Generator}
 use Rattle.al_plan.specs.declared.plan.Plan.{Plan}
 use Rattle.al_plan.specs.Eval.{Bytes}
 use Rattle.al_phys.specs.declared.phys.JoinForm.{JoinForm}
-use Rattle.al_phys.specs.declared.phys.Phys.{Phys, map-Phys, roll-Phys, out-Phys, out-roll-Phys, rec-roll-Phys}
+use Rattle.al_phys.specs.declared.phys.Phys.{Phys, out-Phys}
 use Rattle.al_phys.specs.declared.phys.Phys.TheVariants as P
 use Rattle.al_phys.specs.declared.phys.Phys.TheOpen as L
 use Rattle.al_phys.proofs.OperatorLaws.{pout-Scan, pout-One, pout-Assign, pout-Select, pout-Project, pout-Unnest, pout-Subplan, pout-Check, pout-Join, pout-HashGroup, pout-PreGroup, pout-HashDistinct, pout-AggPart, pout-AggFinal, pout-Union, pout-Sort, pout-Limit, pout-LocalLimit, pout-Result, pout-HashExchange, pout-Broadcast, pout-Gather, pout-Merge}

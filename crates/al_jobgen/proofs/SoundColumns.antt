@@ -1,12 +1,9 @@
 -- What is named among live variables is a column of their rows.
-use Rattle.std.proofs.Common.{◌≡◌, ℕ, zero, suc, ◌<◌, ◌≤◌, ◌+◌, ◌*◌, Bool, true, false, List, [], ◌∷◌, ◌++◌, length, map, refl, ap, sym, subst, ◌∙◌, arith}
-use Rattle.std.specs.Prelude.{nat_eq, nat_lt, if◌then◌else◌, ◌&&◌, ◌||◌, sum}
+use Rattle.std.proofs.Common.{◌≡◌, ℕ, suc, ◌<◌, ◌≤◌, ◌+◌, ◌*◌, Bool, true, false, List, [], ◌∷◌, length, map, refl, ap, sym, subst, ◌∙◌, arith}
+use Rattle.std.specs.Prelude.{nat_eq, nat_lt, if◌then◌else◌, ◌&&◌, ◌||◌}
 use Rattle.std.specs.List.{AllByRecursion, flat_map, list_all, sum_by}
 use Rattle.std.specs.Cmp.Lexicographic.{pointwise}
 use Rattle.std.proofs.lemmas.List.Sums.{sum_by-cons}
-use Rattle.al_func.specs.declared.func.Func.{Func}
-use Rattle.al_func.specs.declared.rex.Rex.{Rex}
-use Rattle.al_func.specs.declared.rex.Rex.TheVariants as R
 use Rattle.al_func.specs.Func.{arity}
 use Rattle.al_func.specs.Rex.{is_sound, IsSound}
 use Rattle.al_func.proofs.RexLaws.{is_sound-Col, is_sound-Lit, is_sound-Call}
@@ -27,7 +24,7 @@ use Rattle.al_plan.specs.Allows.{is_among}
 use Rattle.al_plan.specs.Names.{names, has_arities, agg_exprs, item_exprs}
 use Rattle.al_plan.specs.Refines.{AreAmong, IsOver, AreLive, AreOver}
 use Rattle.al_plan.proofs.Bools.{no}
-use Rattle.al_plan.proofs.UsesLaws.{names-Var, names-Lit, names-Call}
+use Rattle.al_plan.proofs.UsesLaws.{names-Var, names-Call}
 use Rattle.al_conj.proofs.ConjLaws.{arities-Call}
 use Rattle.al_phys.proofs.LiveLaws.{all_left, all_right}
 use Rattle.hy_job.specs.Columns.{agg_of}

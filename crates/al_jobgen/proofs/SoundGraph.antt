@@ -1,18 +1,16 @@
 -- Where the numbers of a piece lie, and what its activities see in a whole job that holds the piece.
-use Rattle.std.proofs.Common.{◌≡◌, ℕ, zero, suc, ◌<◌, ◌≤◌, ◌+◌, ◌-◌, Bool, true, false, Option, Some, None, List, [], ◌∷◌, ◌++◌, length, map, filter, refl, ap, sym, subst, ◌∙◌, arith, length-append, append_assoc, append-nil}
+use Rattle.std.proofs.Common.{◌≡◌, ℕ, zero, suc, ◌<◌, ◌≤◌, ◌+◌, ◌-◌, Bool, false, Some, List, [], ◌∷◌, ◌++◌, length, filter, refl, ap, sym, ◌∙◌, arith, length-append, append_assoc, append-nil}
 use Rattle.std.specs.Prelude.{nat_eq}
 use Rattle.std.specs.List.{AllByRecursion, slice_get}
 use Rattle.std.proofs.lemmas.Bool.{ne_eqb}
 use Rattle.std.proofs.lemmas.List.Elements.{filter-append}
 use Rattle.al_plan.proofs.Moves.{filter_none}
-use Rattle.al_phys.proofs.FlowLaws.{all_both}
-use Rattle.hy_job.specs.declared.job.Kind.{Kind}
 use Rattle.hy_job.specs.declared.job.Activity.{Activity}
 use Rattle.hy_job.specs.declared.job.Edge.{Edge}
 use Rattle.hy_job.specs.declared.job.Block.{Block}
 use Rattle.hy_job.specs.declared.job.Job.{Job}
-use Rattle.hy_job.specs.Sound.{edges_into, edges_from, blocks_into, blocks_from, arity_of, may_leave}
-use Rattle.al_jobgen.specs.JobOf.{Step, Piece, activity, last_of}
+use Rattle.hy_job.specs.Sound.{edges_into, blocks_into, blocks_from, arity_of, may_leave}
+use Rattle.al_jobgen.specs.JobOf.{Step, Piece, activity}
 use Rattle.al_jobgen.specs.Added.{activities_from}
 use Rattle.al_jobgen.proofs.PieceAdded.{activities-append, length-activities}
 

@@ -2,11 +2,11 @@
 use Rattle.std.proofs.Common.{◌≡◌, ℕ, zero, suc, ◌≤◌, ◌+◌, true, Some, None, List, [], ◌++◌, length, map, refl, ap, sym, subst, ◌∙◌, arith, length-append}
 use Rattle.std.specs.List.{range_with_len}
 use Rattle.std.proofs.lemmas.List.FromFn.{length-range_with_len}
-use Rattle.al_agg.specs.declared.agg.Agg.{Agg}
 use Rattle.al_plan.specs.declared.expr.Var.{Var}
-use Rattle.al_plan.specs.declared.plan.AggCall.{AggCall}
-use Rattle.al_plan.specs.declared.plan.Plan.{Plan, map-Plan, roll-Plan, ind-Plan, out-roll-Plan}
+use Rattle.al_plan.specs.declared.plan.Plan.{Plan, roll-Plan, more_of-Plan as Is, end_of-Plan as At}
 use Rattle.al_plan.specs.declared.plan.Plan.TheOpen as L
+use Rattle.al_plan.specs.declared.plan.Plan.TheVariants as P
+use denote.Hole.Carrier.{roll}
 use Rattle.al_plan.specs.Eval.{Bytes}
 use Rattle.al_plan.specs.Allows.{live}
 use Rattle.al_plan.specs.Refines.{AreLive, is_aggregate}
@@ -19,16 +19,13 @@ use Rattle.al_phys.specs.Placed.{IsInner, is_row_wise}
 use Rattle.al_phys.specs.Properties.{old_of}
 use Rattle.al_phys.proofs.LiveLaws.{inner_live}
 use Rattle.hy_job.specs.declared.job.Kind.TheVariants as K
-use Rattle.hy_job.specs.declared.nested.AggRex.{AggRex}
-use Rattle.hy_job.specs.declared.nested.NestedPlan.{NestedPlan, roll-NestedPlan, out-NestedPlan, out-roll-NestedPlan}
-use Rattle.hy_job.specs.declared.nested.NestedPlan.TheOpen as N
+use Rattle.al_jobgen.specs.Opens.{plan_shape, plan_hidden, nested_shape, nested_hidden, row_hidden}
 use Rattle.hy_job.specs.Nested as H
 use Rattle.hy_job.specs.Nested.{n_width}
 use Rattle.hy_job.specs.Sound as sound
 use Rattle.hy_job.specs.Sound.{Widths}
-use Rattle.al_jobgen.specs.Columns.{columns_of, nested_of, made_aggs, root_aggs, aggs_of}
+use Rattle.al_jobgen.specs.Columns.{columns_of, nested_of, aggs_of}
 use Rattle.al_jobgen.specs.JobOf.{state_width, group_arg, all_columns}
-use Rattle.al_jobgen.proofs.NestedOpen.{nested-Aggregate}
 use Rattle.al_jobgen.proofs.NestedChains.{row_wise_same}
 use Rattle.al_jobgen.proofs.SoundColumns.{length-mapped, columns_below, states_same, narrow_states}
 use Rattle.al_jobgen.proofs.SoundNested.{well}
@@ -44,17 +41,6 @@ one_step w = record { in_range = tt; nested = tt; key_pairs = tt; all_keys = tt;
 
 -- ---- the aggregates at the root of a nested plan
 
-root-roll : (n : NestedPlan) (x : N.NestedPlan-F NestedPlan) → n ≡ roll-NestedPlan x → sound.is_aggregate n ≡ sound.aggregate_root x
-unfolding sound.is_aggregate
-root-roll n x e = ap sound.aggregate_root (ap out-NestedPlan e ∙ out-roll-NestedPlan x)
-
-n_aggs-roll : (n : NestedPlan) (x : N.NestedPlan-F NestedPlan) → n ≡ roll-NestedPlan x → H.root_aggs n ≡ H.aggs_root x
-unfolding H.root_aggs
-n_aggs-roll n x e = ap H.aggs_root (ap out-NestedPlan e ∙ out-roll-NestedPlan x)
-
-aggs-roll : (x : L.Plan-F Plan) → aggs_of (roll-Plan x) ≡ root_aggs x
-aggs-roll x = ap root_aggs (out-roll-Plan x)
-
 -- the aggregates by column are those of the plan, and there are as many as live variables
 record IsRooted (inner : Plan) (vars : List Var) : Type 0 where
   pub root : sound.is_aggregate (nested_of vars inner) ≡ true
@@ -62,44 +48,28 @@ record IsRooted (inner : Plan) (vars : List Var) : Type 0 where
   pub count : length (H.root_aggs (nested_of vars inner)) ≡ length (live inner [])
   pub kinds : length (aggs_of inner) ≡ length (live inner [])
 
-abbrev Roots : Plan → Type 0
-Roots inner = is_aggregate inner ≡ true → (vars : List Var) → IsRooted inner vars
-
-aggregate_rooted : (made : List (Var × AggCall)) (p : Plan) (vars : List Var) → IsRooted (roll-Plan (L.Aggregate made p)) vars
-aggregate_rooted made p vars =
-    let aggs = made_aggs (live p vars) made in
-    let nest = nested-Aggregate vars made p in
-    let by_column = n_aggs-roll (nested_of vars (roll-Plan (L.Aggregate made p))) (N.Aggregate aggs (nested_of vars p)) nest in
+rooted : (inner : Plan) → is_aggregate inner ≡ true → (vars : List Var) → IsRooted inner vars
+unfolding plan_shape plan_hidden nested_shape nested_hidden row_hidden roll-Plan roll nested_of
+rooted (P.Scan set vs) e vars = absurd (no (sym e ∙ aggregate-roll (L.Scan set vs)))
+rooted P.Empty e vars = absurd (no (sym e ∙ aggregate-roll L.Empty))
+rooted P.Nested e vars = absurd (no (sym e ∙ aggregate-roll L.Nested))
+rooted (P.Assign' made _ (Is p At)) e vars = absurd (no (sym e ∙ aggregate-roll (L.Assign made p)))
+rooted (P.Select' c _ (Is p At)) e vars = absurd (no (sym e ∙ aggregate-roll (L.Select c p)))
+rooted (P.Project' vs _ (Is p At)) e vars = absurd (no (sym e ∙ aggregate-roll (L.Project vs p)))
+rooted (P.Unnest' v g _ (Is p At)) e vars = absurd (no (sym e ∙ aggregate-roll (L.Unnest v g p)))
+rooted (P.Subplan' _ (Is m At) _ (Is p At)) e vars = absurd (no (sym e ∙ aggregate-roll (L.Subplan m p)))
+rooted (P.Join' c _ (Is l At) _ (Is r At)) e vars = absurd (no (sym e ∙ aggregate-roll (L.Join c l r)))
+rooted (P.LeftJoin' c _ (Is l At) _ (Is r At)) e vars = absurd (no (sym e ∙ aggregate-roll (L.LeftJoin c l r)))
+rooted (P.Group' keys _ (Is m At) _ (Is p At)) e vars = absurd (no (sym e ∙ aggregate-roll (L.Group keys m p)))
+rooted (P.Distinct' _ (Is p At)) e vars = absurd (no (sym e ∙ aggregate-roll (L.Distinct p)))
+rooted (P.Union' made ls rs _ (Is l At) _ (Is r At)) e vars = absurd (no (sym e ∙ aggregate-roll (L.Union made ls rs l r)))
+rooted (P.Aggregate' made _ (Is p At)) e vars =
     let lives : length (live (roll-Plan (L.Aggregate made p)) []) ≡ length made = ap (λ (vs : List Var). length vs) (live_is (L.Aggregate made p) []) ∙ length-mapped _ made in
-    record {
-      root = root-roll (nested_of vars (roll-Plan (L.Aggregate made p))) (N.Aggregate aggs (nested_of vars p)) nest;
-      states = ap sound.states_width by_column ∙ states_same (live p vars) made ∙ sym (ap state_width (aggs-roll (L.Aggregate made p)));
-      count = ap (λ (aggs : List AggRex). length aggs) by_column ∙ length-mapped _ made ∙ sym lives;
-      kinds = ap (λ (aggs : List Agg). length aggs) (aggs-roll (L.Aggregate made p)) ∙ length-mapped _ made ∙ sym lives;
-    }
-
-layer_rooted : {S : Type 0} (up : S → Plan) (y : L.Plan-F S) → Roots (roll-Plan (map-Plan S Plan up y))
-layer_rooted up (L.Scan set vs) e vars = absurd (no (sym e ∙ aggregate-roll (L.Scan set vs)))
-layer_rooted up L.Empty e vars = absurd (no (sym e ∙ aggregate-roll L.Empty))
-layer_rooted up L.Nested e vars = absurd (no (sym e ∙ aggregate-roll L.Nested))
-layer_rooted up (L.Assign made s) e vars = absurd (no (sym e ∙ aggregate-roll (L.Assign made (up s))))
-layer_rooted up (L.Select c s) e vars = absurd (no (sym e ∙ aggregate-roll (L.Select c (up s))))
-layer_rooted up (L.Project vs s) e vars = absurd (no (sym e ∙ aggregate-roll (L.Project vs (up s))))
-layer_rooted up (L.Unnest v g s) e vars = absurd (no (sym e ∙ aggregate-roll (L.Unnest v g (up s))))
-layer_rooted up (L.Subplan m s) e vars = absurd (no (sym e ∙ aggregate-roll (L.Subplan (up m) (up s))))
-layer_rooted up (L.Join c l r) e vars = absurd (no (sym e ∙ aggregate-roll (L.Join c (up l) (up r))))
-layer_rooted up (L.LeftJoin c l r) e vars = absurd (no (sym e ∙ aggregate-roll (L.LeftJoin c (up l) (up r))))
-layer_rooted up (L.Group keys m s) e vars = absurd (no (sym e ∙ aggregate-roll (L.Group keys (up m) (up s))))
-layer_rooted up (L.Distinct s) e vars = absurd (no (sym e ∙ aggregate-roll (L.Distinct (up s))))
-layer_rooted up (L.Union made ls rs l r) e vars = absurd (no (sym e ∙ aggregate-roll (L.Union made ls rs (up l) (up r))))
-layer_rooted up (L.Aggregate made s) e vars = aggregate_rooted made (up s) vars
-layer_rooted up (L.Order keys s) e vars = absurd (no (sym e ∙ aggregate-roll (L.Order keys (up s))))
-layer_rooted up (L.Limit k m s) e vars = absurd (no (sym e ∙ aggregate-roll (L.Limit k m (up s))))
-layer_rooted up (L.Check name c s) e vars = absurd (no (sym e ∙ aggregate-roll (L.Check name c (up s))))
-layer_rooted up (L.Result vs s) e vars = absurd (no (sym e ∙ aggregate-roll (L.Result vs (up s))))
-
-rooted : (inner : Plan) → Roots inner
-rooted = ind-Plan Roots (λ x y e. subst (λ (z : L.Plan-F Plan). Roots (roll-Plan z)) e (layer_rooted (λ s. s.0) y))
+    record { root = refl; states = states_same (live p vars) made; count = length-mapped _ made ∙ sym lives; kinds = length-mapped _ made ∙ sym lives }
+rooted (P.Order' keys _ (Is p At)) e vars = absurd (no (sym e ∙ aggregate-roll (L.Order keys p)))
+rooted (P.Limit' k m _ (Is p At)) e vars = absurd (no (sym e ∙ aggregate-roll (L.Limit k m p)))
+rooted (P.Check' name c _ (Is p At)) e vars = absurd (no (sym e ∙ aggregate-roll (L.Check name c p)))
+rooted (P.Result' vs _ (Is p At)) e vars = absurd (no (sym e ∙ aggregate-roll (L.Result vs p)))
 
 -- ---- a nested plan that may stand over rows of these variables
 

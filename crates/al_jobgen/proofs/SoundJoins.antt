@@ -1,5 +1,5 @@
 -- The two activities of a join name columns of the rows that they see.
-use Rattle.std.proofs.Common.{◌≡◌, ℕ, ◌<◌, ◌≤◌, ◌+◌, Bool, true, false, List, [], ◌∷◌, ◌++◌, length, map, filter, refl, ap, sym, subst, ◌∙◌, arith, length-append, Option, Some, None, filter_map}
+use Rattle.std.proofs.Common.{◌≡◌, ◌≤◌, Bool, true, false, List, [], ◌∷◌, ◌++◌, length, map, filter, refl, ap, sym, subst, ◌∙◌, arith, length-append, Option, Some, None, filter_map}
 use Rattle.std.specs.Prelude.{◌&&◌, if◌then◌else◌}
 use Rattle.std.specs.List.{AllByRecursion, cons_option}
 use Rattle.al_func.specs.declared.func.Func.TheVariants as F
@@ -16,7 +16,7 @@ use Rattle.al_phys.proofs.ValueLaws.{and_left, and_right}
 use Rattle.hy_job.specs.declared.job.Kind.TheVariants as K
 use Rattle.hy_job.specs.Sound as sound
 use Rattle.hy_job.specs.Sound.{Widths}
-use Rattle.al_jobgen.specs.Columns.{column_of, rex_of, is_none, residual, join_arg}
+use Rattle.al_jobgen.specs.Columns.{column_of, is_none, residual, join_arg}
 use Rattle.al_jobgen.proofs.SoundColumns.{length-mapped, rex_over, column_below}
 use Rattle.al_jobgen.proofs.SoundPiece.{StepSound}
 

@@ -1,22 +1,20 @@
 -- Pieces that are sound in every job that holds them, and the shapes that keep it.
-use Rattle.std.proofs.Common.{◌≡◌, ℕ, zero, suc, ◌<◌, ◌≤◌, ◌+◌, ◌-◌, Bool, true, false, cond, Option, Some, None, List, [], ◌∷◌, ◌++◌, length, map, filter, refl, ap, sym, subst, ◌∙◌, arith, length-append, append_assoc, append-nil}
+use Rattle.std.proofs.Common.{◌≡◌, ℕ, suc, ◌<◌, ◌≤◌, ◌+◌, Bool, true, false, Some, List, [], ◌∷◌, ◌++◌, length, map, filter, refl, ap, sym, subst, ◌∙◌, arith, length-append, append-nil}
 use Rattle.std.specs.Prelude.{nat_eq}
 use Rattle.std.specs.List.{AllByRecursion, slice_get, range_with_len}
 use Rattle.std.specs.List.Sorted.{IsPermutation}
 use Rattle.std.proofs.lemmas.List.Sorted.{IsPermutation-refl}
 use Rattle.std.proofs.lemmas.List.Elements.{filter-append}
-use Rattle.al_phys.proofs.FlowLaws.{all_both}
 use Rattle.hy_job.specs.declared.job.Kind.{Kind}
 use Rattle.hy_job.specs.declared.job.Activity.{Activity}
 use Rattle.hy_job.specs.declared.job.Edge.{Edge}
 use Rattle.hy_job.specs.declared.job.Block.{Block}
 use Rattle.hy_job.specs.declared.job.Wire.{Wire}
 use Rattle.hy_job.specs.declared.job.Job.{Job}
-use Rattle.hy_job.specs.Sound.{edges_into, edges_from, blocks_into, blocks_from, edges_at, arity_of, first_arity, handed_arity, built_width, width_in, Widths, widths_of, inputs, is_first, is_second, may_leave, one_where, AreTwo, AreTwoOf, IsInRange, HasSoundNested, HasKeyPairs, HasAllAsKeys, TakesStates, HasArity, IsWireInRange, LeavesNoInput}
-use Rattle.al_jobgen.specs.JobOf.{Step, Piece, activity, last_of, edge_from, block_at, source_piece, exchange_piece, one_piece, two_piece, union_piece, join_piece}
+use Rattle.hy_job.specs.Sound.{edges_into, edges_from, blocks_into, blocks_from, arity_of, first_arity, handed_arity, built_width, width_in, Widths, widths_of, inputs, is_first, is_second, may_leave, one_where, AreTwo, AreTwoOf, IsInRange, HasSoundNested, HasKeyPairs, HasAllAsKeys, TakesStates, HasArity, IsWireInRange, LeavesNoInput}
+use Rattle.al_jobgen.specs.JobOf.{Step, Piece, activity, last_of, block_at, source_piece, exchange_piece}
 use Rattle.al_jobgen.specs.Added.{activities_from}
-use Rattle.al_jobgen.proofs.PieceAdded.{activities-append, length-activities}
-use Rattle.al_jobgen.proofs.SoundGraph.{weaken, none_by, below_ne, above_ne, EdgeIn, BlockIn, into, out_of, b_into, b_out, into_above, into_below, out_above, out_below, b_into_above, b_out_above, widen, b_widen, Ranged, Holds, holds_left, holds_right, last_arity, last_may, last_arity-append, last_may-append, arity_last, get_first, get_second}
+use Rattle.al_jobgen.proofs.SoundGraph.{below_ne, above_ne, BlockIn, into, out_of, out_above, Ranged, Holds, holds_left, holds_right, last_arity, last_may, arity_last, get_first, get_second}
 
 -- ---- what each part of a job is to keep
 

@@ -1,19 +1,18 @@
 -- Operators over sound pieces are sound pieces.
-use Rattle.std.proofs.Common.{◌≡◌, ℕ, zero, suc, ◌<◌, ◌≤◌, ◌+◌, ◌-◌, Bool, true, false, Option, Some, None, List, [], ◌∷◌, ◌++◌, length, map, filter, refl, ap, sym, subst, ◌∙◌, arith, length-append, append_assoc, append-nil}
+use Rattle.std.proofs.Common.{◌≡◌, ℕ, suc, ◌<◌, ◌≤◌, ◌+◌, Bool, true, false, List, [], ◌∷◌, ◌++◌, length, filter, refl, ap, sym, subst, ◌∙◌, arith, length-append, append_assoc, append-nil}
 use Rattle.std.specs.Prelude.{nat_eq}
-use Rattle.std.specs.List.{AllByRecursion, slice_get, range_with_len}
+use Rattle.std.specs.List.{AllByRecursion}
 use Rattle.std.proofs.lemmas.List.Elements.{filter-append}
 use Rattle.al_phys.proofs.FlowLaws.{all_both}
-use Rattle.hy_job.specs.declared.job.Activity.{Activity}
 use Rattle.hy_job.specs.declared.job.Edge.{Edge}
 use Rattle.hy_job.specs.declared.job.Block.{Block}
 use Rattle.hy_job.specs.declared.job.Wire.{Wire}
 use Rattle.hy_job.specs.declared.job.Job.{Job}
-use Rattle.hy_job.specs.Sound.{edges_into, edges_from, blocks_into, blocks_from, arity_of, first_arity, width_in, Widths, widths_of, may_leave, one_where}
-use Rattle.al_jobgen.specs.JobOf.{Step, Piece, activity, last_of, edge_from, block_at, one_piece, two_piece, union_piece, join_piece}
+use Rattle.hy_job.specs.Sound.{edges_from, first_arity, Widths, widths_of, may_leave, one_where}
+use Rattle.al_jobgen.specs.JobOf.{Step, Piece, last_of, edge_from, block_at, one_piece, two_piece, union_piece, join_piece}
 use Rattle.al_jobgen.specs.Added.{activities_from}
 use Rattle.al_jobgen.proofs.PieceAdded.{activities-append}
-use Rattle.al_jobgen.proofs.SoundGraph.{weaken, below_ne, above_ne, EdgeIn, BlockIn, into, out_of, out_above, out_below, widen, b_widen, Ranged, Holds, last_arity, last_may, last_arity-append, last_may-append, arity_last}
+use Rattle.al_jobgen.proofs.SoundGraph.{weaken, below_ne, above_ne, EdgeIn, BlockIn, out_of, out_below, widen, b_widen, Ranged, Holds, last_arity, last_may, last_may-append, arity_last}
 use Rattle.al_jobgen.proofs.SoundPiece.{StepSound, ActivitySound, EdgeSound, BlockSound, HoldsPiece, SoundIn, SoundPiece, GoesOn, Alone, InTwo, keep_one, keep_none, nat_same, Under, under, edge_sound, activity_sound, two_sound}
 
 -- the activities of a part and those behind it

@@ -1,8 +1,6 @@
 -- What each activity over rows of live variables names is there, and its rows are as wide as told.
-use Rattle.std.proofs.Common.{◌≡◌, ℕ, ◌<◌, ◌≤◌, ◌+◌, Bool, List, [], ◌∷◌, ◌++◌, length, map, refl, ap, sym, subst, ◌∙◌, arith, length-append}
-use Rattle.std.specs.List.{AllByRecursion, sum_by}
-use Rattle.al_agg.specs.declared.agg.Agg.{Agg}
-use Rattle.al_agg.specs.Part.{width}
+use Rattle.std.proofs.Common.{◌≡◌, ℕ, ◌≤◌, List, [], ◌∷◌, ◌++◌, length, map, ap, sym, subst, ◌∙◌, arith, length-append}
+use Rattle.std.specs.List.{AllByRecursion}
 use Rattle.al_func.specs.Rex.{IsSound}
 use Rattle.al_plan.specs.declared.expr.Var.{Var}
 use Rattle.al_plan.specs.declared.expr.Expr.{Expr}
@@ -12,7 +10,6 @@ use Rattle.al_plan.specs.declared.plan.Generator.{Generator}
 use Rattle.al_plan.specs.Eval.{Bytes}
 use Rattle.al_plan.specs.Names.{agg_exprs, item_exprs}
 use Rattle.al_plan.specs.Refines.{IsOver, AreLive, AreOver}
-use Rattle.hy_job.specs.declared.job.Kind.{Kind}
 use Rattle.hy_job.specs.declared.job.Kind.TheVariants as K
 use Rattle.hy_job.specs.Sound as sound
 use Rattle.hy_job.specs.Sound.{Widths}

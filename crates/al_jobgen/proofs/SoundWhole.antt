@@ -1,6 +1,6 @@
 -- A plan whose piece is sound has a sound job.
 use Rattle.std.proofs.Common.{◌≡◌, ℕ, suc, ◌<◌, ◌≤◌, ◌+◌, ◌*◌, ◌^◌, List, [], ◌∷◌, ◌++◌, length, map, refl, ap, sym, subst, ◌∙◌, arith, append-nil, length-append}
-use Rattle.std.specs.List.{AllByRecursion, range_with_len, slice_get}
+use Rattle.std.specs.List.{range_with_len}
 use Rattle.al_phys.specs.declared.phys.Phys.{Phys, map-Phys, roll-Phys, out-Phys, out-roll-Phys, ind-Phys}
 use Rattle.al_phys.specs.declared.phys.Phys.TheOpen as L
 use Rattle.al_phys.specs.Operators.{operators}
@@ -8,16 +8,14 @@ use Rattle.hy_job.specs.declared.job.Activity.{Activity}
 use Rattle.hy_job.specs.declared.job.Edge.{Edge}
 use Rattle.hy_job.specs.declared.job.Block.{Block}
 use Rattle.hy_job.specs.declared.job.Wire.{Wire}
-use Rattle.hy_job.specs.declared.job.Job.{Job}
-use Rattle.hy_job.specs.Sound as sound
-use Rattle.hy_job.specs.Sound.{SoundJob, edges_from}
+use Rattle.hy_job.specs.Sound.{SoundJob}
 use Rattle.al_jobgen.specs.JobOf.{Step, Piece, own_steps, wire_step, piece_of, job_of, last_of}
 use Rattle.al_jobgen.specs.Shapes.{Form, Source, Over, Both, form, form_piece, over_piece, both_piece}
 use Rattle.al_jobgen.specs.Added.{own_of, activities_from}
 use Rattle.al_jobgen.proofs.PieceAdded.{length-activities}
 use Rattle.al_jobgen.proofs.PieceForms.{piece_form, form_below, operators_form}
-use Rattle.al_jobgen.proofs.SoundGraph.{weaken, EdgeIn, BlockIn, out_above, last_may, Holds}
-use Rattle.al_jobgen.proofs.SoundPiece.{ActivitySound, EdgeSound, BlockSound, HoldsPiece, SoundIn, SoundPiece}
+use Rattle.al_jobgen.proofs.SoundGraph.{weaken, EdgeIn, BlockIn, out_above}
+use Rattle.al_jobgen.proofs.SoundPiece.{ActivitySound, EdgeSound, HoldsPiece, SoundIn, SoundPiece}
 
 -- ---- induction by what an operator stands over
 

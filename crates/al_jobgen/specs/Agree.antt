@@ -4,9 +4,7 @@ use Rattle.std.specs.List.{All, AllByRecursion, flat_map, range_with_len}
 use Rattle.std.specs.List.Sorted.{IsSorted}
 use Rattle.al_value.specs.declared.value.Value.{Value}
 use Rattle.al_value.specs.Value.{IsValue}
-use Rattle.al_func.specs.declared.rex.Rex.{Rex, fold-Rex}
-use Rattle.al_func.specs.declared.rex.Rex.TheOpen.{Rex-F}
-use Rattle.al_func.specs.declared.rex.Rex.TheOpen as R
+use Rattle.al_func.specs.declared.rex.Rex.{Rex}
 use Rattle.al_func.specs.Rex.{eval_rex}
 use Rattle.al_agg.specs.declared.agg.Agg.{Agg}
 use Rattle.al_agg.specs.Agg.{agg}
@@ -25,15 +23,13 @@ use Rattle.al_phys.specs.Gives.{joined, AreStretches, IsNested, IsGrouped, IsPre
 use Rattle.al_phys.specs.Parts.{values_at, part_of, Interleaves}
 use Rattle.al_phys.specs.Properties.{old_of}
 use Rattle.al_phys.specs.Placed.{IsInner, is_row_wise}
-use Rattle.hy_job.specs.declared.nested.NestedPlan.{NestedPlan, out-NestedPlan, fold-NestedPlan}
-use Rattle.hy_job.specs.declared.nested.NestedPlan.TheOpen.{NestedPlan-F}
-use Rattle.hy_job.specs.declared.nested.NestedPlan.TheOpen as N
+use Rattle.hy_job.specs.declared.nested.NestedPlan.{NestedPlan, more_of-NestedPlan as Is, end_of-NestedPlan as At}
+use Rattle.hy_job.specs.declared.nested.NestedPlan.TheVariants.{Aggregate'}
 use Rattle.hy_job.specs.declared.nested.AggRex.{AggRex}
-use Rattle.hy_job.specs.declared.nested.AggRex.TheVariants as AR
 use Rattle.hy_job.specs.declared.nested.GenRex.{GenRex}
-use Rattle.hy_job.specs.declared.nested.GenRex.TheVariants as G
 use Rattle.hy_job.specs.declared.job.GroupArg.{GroupArg}
-use Rattle.hy_job.specs.Columns.{Row, agg_of, agg_value}
+use Rattle.hy_job.specs.Columns.{Row, AreValues, agg_of, agg_value}
+use Rattle.hy_job.specs.Literals.{literals, gen_literals, agg_literals, n_literals}
 use Rattle.hy_job.specs.Columns as C
 use Rattle.hy_job.specs.Nested.{NAllows}
 use Rattle.hy_job.specs.Nested as H
@@ -181,12 +177,9 @@ abbrev pub AreTaken : List AggRex → List Row → Type 0
 AreTaken made rows = AllByRecursion (λ a. All IsValue (C.agg_values a rows)) made
 
 -- so are those of the aggregates of a row-wise nested plan
-abbrev pub values_root : NestedPlan-F NestedPlan → List Row → Type 0
-values_root (N.Aggregate made p) rows = AreTaken made (H.chain_rows p rows)
-values_root _ rows = Unit {0}
-
 abbrev pub HaveValues : NestedPlan → List Row → Type 0
-HaveValues n = values_root (out-NestedPlan n)
+HaveValues (Aggregate' made _ (Is p At)) rows = AreTaken made (H.chain_rows p rows)
+HaveValues _ rows = Unit {0}
 
 -- the joined states of pieces give the nested plan's row over all their rows
 abbrev pub StatesJoin : Type 0
@@ -247,19 +240,6 @@ JoinedRowsAreWide = (ls rs : List Var) (left right : List Row) → AreAsWide ls 
 
 -- ---- values
 
--- the literals of an expression, in the order of the text
-abbrev pub literals_step : Rex-F (List Value) → List Value
-literals_step (R.Col j) = []
-literals_step (R.Lit v) = v ∷ []
-literals_step (R.Call f args) = flat_map (λ a. a) args
-
-unfoldable pub literals : Rex → List Value
-literals = fold-Rex (List Value) literals_step
-
-abbrev pub gen_literals : GenRex → List Value
-gen_literals (G.Range a b) = literals a ++ literals b
-gen_literals (G.Split t s) = literals t ++ literals s
-
 -- expressions over rows of values give values, where their literals are values
 abbrev pub ValuesStay : Type 0
 ValuesStay = (e : Rex) → AllByRecursion IsValue (literals e) → (row : Row) → AllByRecursion IsValue row → IsValue (eval_rex e row)
@@ -267,31 +247,6 @@ ValuesStay = (e : Rex) → AllByRecursion IsValue (literals e) → (row : Row) �
 -- so do generators
 abbrev pub ItemsAreValues : Type 0
 ItemsAreValues = (g : GenRex) → AllByRecursion IsValue (gen_literals g) → (row : Row) → AllByRecursion IsValue row → AllByRecursion IsValue (C.items g row)
-
-abbrev pub AreValues : Row → Type 0
-AreValues = AllByRecursion IsValue
-
-abbrev pub agg_literals : AggRex → List Value
-agg_literals AR.CountAll = []
-agg_literals (AR.Count e) = literals e
-agg_literals (AR.Sum e) = literals e
-agg_literals (AR.Min e) = literals e
-agg_literals (AR.Max e) = literals e
-
--- the literals of a nested plan
-abbrev pub n_literals_step : NestedPlan-F (List Value) → List Value
-n_literals_step N.Nested = []
-n_literals_step (N.Assign made p) = flat_map literals made ++ p
-n_literals_step (N.Select c p) = literals c ++ p
-n_literals_step (N.Project columns p) = p
-n_literals_step (N.Unnest g p) = gen_literals g ++ p
-n_literals_step (N.Order keys p) = p
-n_literals_step (N.Distinct p) = p
-n_literals_step (N.Limit n k p) = p
-n_literals_step (N.Aggregate made p) = flat_map agg_literals made ++ p
-
-unfoldable pub n_literals : NestedPlan → List Value
-n_literals = fold-NestedPlan (List Value) n_literals_step
 
 -- over rows of values, aggregates whose literals are values are taken over values
 abbrev pub TakenAreValues : Type 0

@@ -15,9 +15,8 @@ use Rattle.al_plan.specs.declared.plan.AggCall.{AggCall}
 use Rattle.al_plan.specs.declared.plan.AggCall.TheVariants as C
 use Rattle.al_plan.specs.declared.plan.Generator.{Generator}
 use Rattle.al_plan.specs.declared.plan.Generator.TheVariants as G
-use Rattle.al_plan.specs.declared.plan.Plan.{Plan, rec-Plan, out-Plan}
-use Rattle.al_plan.specs.declared.plan.Plan.TheOpen.{Plan-F}
-use Rattle.al_plan.specs.declared.plan.Plan.TheOpen as P
+use Rattle.al_plan.specs.declared.plan.Plan.{Plan, more_of-Plan as Is, end_of-Plan as At}
+use Rattle.al_plan.specs.declared.plan.Plan.TheVariants as P
 use Rattle.al_plan.specs.Eval.{Bytes}
 use Rattle.al_plan.specs.Allows.{live}
 use Rattle.al_conj.specs.Conj.{conj, all_of}
@@ -81,38 +80,22 @@ made_aggs vars = map (λ m. agg_rex vars m.1)
 
 -- ---- nested plans
 
--- a nested plan over columns, where `nested` has rows of these variables, as a recursion over plans asks for it
-pub record ByColumn : Type 1 where
-  pub over : List Var → NestedPlan
-
--- `plan` is the plan of an input; operators that stand in no nested plan are given as `nested`
-abbrev pub nested_by : (X : Type 0) → (X → Plan) → (X → ByColumn) → Plan-F X → List Var → NestedPlan
-nested_by X plan by (P.Assign made p) given = N.Assign (made_rexes (live (plan p) given) made) ((by p).over given)
-nested_by X plan by (P.Select c p) given = N.Select (rex_of (live (plan p) given) c) ((by p).over given)
-nested_by X plan by (P.Project vars p) given = N.Project (columns_of (live (plan p) given) vars) ((by p).over given)
-nested_by X plan by (P.Unnest v g p) given = N.Unnest (gen_rex (live (plan p) given) g) ((by p).over given)
-nested_by X plan by (P.Order keys p) given = N.Order (sort_keys (live (plan p) given) keys) ((by p).over given)
-nested_by X plan by (P.Distinct p) given = N.Distinct ((by p).over given)
-nested_by X plan by (P.Limit n k p) given = N.Limit n k ((by p).over given)
-nested_by X plan by (P.Aggregate made p) given = N.Aggregate (made_aggs (live (plan p) given) made) ((by p).over given)
-nested_by X plan by _ given = N.Nested
-
-abbrev pub by_column_step : (X : Type 0) → (X → Plan) → (X → ByColumn) → Plan-F X → ByColumn
-by_column_step X plan by x = record { over = nested_by X plan by x }
-
-unfoldable pub by_column : Plan → ByColumn
-by_column = rec-Plan ByColumn by_column_step
-
-abbrev pub nested_of : List Var → Plan → NestedPlan
-nested_of vars p = (by_column p).over vars
+-- a nested plan over columns, where `nested` has rows of these variables; operators that stand in no nested plan are given as `nested`
+unfoldable pub nested_of : List Var → Plan → NestedPlan
+nested_of given (P.Assign' made _ (Is p At)) = N.Assign (made_rexes (live p given) made) (nested_of given p)
+nested_of given (P.Select' c _ (Is p At)) = N.Select (rex_of (live p given) c) (nested_of given p)
+nested_of given (P.Project' vars _ (Is p At)) = N.Project (columns_of (live p given) vars) (nested_of given p)
+nested_of given (P.Unnest' v g _ (Is p At)) = N.Unnest (gen_rex (live p given) g) (nested_of given p)
+nested_of given (P.Order' keys _ (Is p At)) = N.Order (sort_keys (live p given) keys) (nested_of given p)
+nested_of given (P.Distinct' _ (Is p At)) = N.Distinct (nested_of given p)
+nested_of given (P.Limit' n k _ (Is p At)) = N.Limit n k (nested_of given p)
+nested_of given (P.Aggregate' made _ (Is p At)) = N.Aggregate (made_aggs (live p given) made) (nested_of given p)
+nested_of given _ = N.Nested
 
 -- the aggregates of a nested plan
-abbrev pub root_aggs : Plan-F Plan → List Agg
-root_aggs (P.Aggregate made p) = map (λ m. agg_kind m.1) made
-root_aggs _ = []
-
 abbrev pub aggs_of : Plan → List Agg
-aggs_of p = root_aggs (out-Plan p)
+aggs_of (P.Aggregate' made _ (Is p At)) = map (λ m. agg_kind m.1) made
+aggs_of _ = []
 
 -- ---- joins
 

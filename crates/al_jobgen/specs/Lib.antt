@@ -1,6 +1,9 @@
+pub mod Opens
 pub mod Columns
 pub mod JobOf
 pub mod Agree
 pub mod Parts
 pub mod Shapes
 pub mod Added
+pub mod Literals
+pub mod LiteralCases

@@ -1,5 +1,5 @@
 -- The inputs of operators, and the piece of a job that stands over them.
-use Rattle.std.specs.Prelude.{ℕ, List, [], ◌∷◌}
+use Rattle.std.specs.Prelude.{List, [], ◌∷◌}
 use Rattle.al_phys.specs.declared.phys.Phys.{Phys}
 use Rattle.al_phys.specs.declared.phys.Phys.TheOpen.{Phys-F}
 use Rattle.al_phys.specs.declared.phys.Phys.TheOpen as P

@@ -4,6 +4,7 @@ ghost use Rattle.std.specs.Prelude.{◌≡◌, ◌+◌, [], ◌∷◌, IfOk, OnO
 ghost use Rattle.al_phys.specs.declared.phys.Phys.{out-Phys};
 ghost use Rattle.al_jobgen.specs.Added.{Added, AddedBoth, AddedOver, AddedPlan, AddedSource, EndsAt, both_edges, edge_of, over_edges, own_blocks, own_of};
 ghost use Rattle.al_jobgen.specs.JobOf.{block_at, wire_step};
+ghost use Rattle.al_jobgen.specs.Literals.{HaveValueLiterals};
 
 use crate::columns::number;
 use crate::inputs::{Inputs, inputs_of};
@@ -94,7 +95,8 @@ impl Builder {
 
     /// The activities of an operator.
     fn steps(&mut self, alloc: Global, p: &Phys) -> Result<(), NoMemory>
-        ensures { OnOk result (Added self.old self.new (own_of p.now) [] []) }
+        ensures is { OnOk result (Added self.old self.new (own_of p.now) [] []) }
+        ensures values { OnOk result (HaveValueLiterals self.old.activities → HaveValueLiterals self.new.activities) }
     {
         let first = number(self.activities.len())?;
         put_own(alloc, &mut self.activities, first, p)
@@ -111,7 +113,8 @@ impl Builder {
 
     /// An operator without inputs.
     fn source(&mut self, alloc: Global, p: &Phys) -> Result<Tail, NoMemory>
-        ensures { IfOk result (AddedSource self.old self.new (own_of p.now) (wire_step (out-Phys p.now))) }
+        ensures is { IfOk result (AddedSource self.old self.new (own_of p.now) (wire_step (out-Phys p.now))) }
+        ensures values { OnOk result (HaveValueLiterals self.old.activities → HaveValueLiterals self.new.activities) }
     {
         self.steps(alloc, p)?;
         self.end(alloc, p)
@@ -119,7 +122,8 @@ impl Builder {
 
     /// An operator over one input.
     fn over(&mut self, alloc: Global, input: Tail, p: &Phys) -> Result<Tail, NoMemory>
-        ensures { IfOk result (AddedOver self.old self.new input (own_of p.now) (wire_step (out-Phys p.now))) }
+        ensures is { IfOk result (AddedOver self.old self.new input (own_of p.now) (wire_step (out-Phys p.now))) }
+        ensures values { OnOk result (HaveValueLiterals self.old.activities → HaveValueLiterals self.new.activities) }
     {
         let count = count_of(p);
         self.over_edge(input, count)?;
@@ -130,7 +134,8 @@ impl Builder {
 
     /// An operator over two inputs.
     fn both(&mut self, alloc: Global, left: Tail, right: Tail, p: &Phys) -> Result<Tail, NoMemory>
-        ensures { IfOk result (AddedBoth self.old self.new left right (own_of p.now) (wire_step (out-Phys p.now))) }
+        ensures is { IfOk result (AddedBoth self.old self.new left right (own_of p.now) (wire_step (out-Phys p.now))) }
+        ensures values { OnOk result (HaveValueLiterals self.old.activities → HaveValueLiterals self.new.activities) }
     {
         let count = count_of(p);
         self.both_edges(left, right, count)?;
@@ -142,7 +147,8 @@ impl Builder {
 
 /// Adds the operators of a physical plan, each behind its inputs.
 pub fn add(alloc: Global, builder: &mut Builder, p: &Phys) -> Result<Tail, NoMemory>
-    ensures { IfOk result (AddedPlan builder.old builder.new p.now) }
+    ensures is { IfOk result (AddedPlan builder.old builder.new p.now) }
+    ensures values { OnOk result (HaveValueLiterals builder.old.activities → HaveValueLiterals builder.new.activities) }
 {
     match inputs_of(p) {
         Inputs::None => builder.source(alloc, p),

@@ -1,8 +1,10 @@
 //! Variables as columns of the rows whose values are those of these variables, in order.
 
 ghost use Rattle.std.specs.Prelude.{◌≡◌, IfOk, map, nat_eq};
-ghost use Rattle.std.specs.List.{position};
+ghost use Rattle.std.specs.List.{flat_map, position};
 ghost use Rattle.std.specs.Cmp.Lexicographic.{pointwise};
+ghost use Rattle.hy_job.specs.Literals.{agg_literals, gen_literals, literals};
+ghost use Rattle.hy_job.specs.Columns.{AreValues};
 ghost use Rattle.al_jobgen.specs.Columns as spec;
 
 use al_agg::Agg;
@@ -69,7 +71,8 @@ pub fn old_columns(alloc: Global, vars: &[Var], keys: &[(Var, Var)]) -> Result<L
 
 #[cycle(rex_of)]
 fn rexes_of(alloc: Global, vars: &[Var], args: &[Expr]) -> Result<List<Rex>, NoMemory>
-    ensures { IfOk result (λ rexes. rexes ≡ map (spec.rex_of vars.now) args.now) }
+    ensures is { IfOk result (λ rexes. rexes ≡ map (spec.rex_of vars.now) args.now) }
+    ensures values { IfOk result (λ rexes. AreValues (flat_map literals rexes)) }
 {
     let mut rexes = List::new(alloc);
     for e in args {
@@ -80,9 +83,10 @@ fn rexes_of(alloc: Global, vars: &[Var], args: &[Expr]) -> Result<List<Rex>, NoM
 
 /// An expression over columns.
 #[cycle(rex_of)]
-#[tactic(auto, using(crate::proofs::PieceColumns::rex_laws))]
+#[tactic(auto, using(crate::proofs::PieceColumns::rex_laws, crate::proofs::Literals::rex_values))]
 pub fn rex_of(alloc: Global, vars: &[Var], e: &Expr) -> Result<Rex, NoMemory>
-    ensures { IfOk result (λ r. r ≡ spec.rex_of vars.now e.now) }
+    ensures is { IfOk result (λ r. r ≡ spec.rex_of vars.now e.now) }
+    ensures values { IfOk result (λ r. AreValues (literals r)) }
 {
     match e {
         Expr::Var(v) => Ok(Rex::Col(column_of(vars, v)?)),
@@ -92,7 +96,8 @@ pub fn rex_of(alloc: Global, vars: &[Var], e: &Expr) -> Result<Rex, NoMemory>
 }
 
 pub fn made_rexes(alloc: Global, vars: &[Var], made: &[(Var, Expr)]) -> Result<List<Rex>, NoMemory>
-    ensures { IfOk result (λ rexes. rexes ≡ spec.made_rexes vars.now made.now) }
+    ensures is { IfOk result (λ rexes. rexes ≡ spec.made_rexes vars.now made.now) }
+    ensures values { IfOk result (λ rexes. AreValues (flat_map literals rexes)) }
 {
     let mut rexes = List::new(alloc);
     for (_, e) in made {
@@ -102,7 +107,8 @@ pub fn made_rexes(alloc: Global, vars: &[Var], made: &[(Var, Expr)]) -> Result<L
 }
 
 fn agg_rex(alloc: Global, vars: &[Var], call: &AggCall) -> Result<AggRex, NoMemory>
-    ensures { IfOk result (λ a. a ≡ spec.agg_rex vars.now call.now) }
+    ensures is { IfOk result (λ a. a ≡ spec.agg_rex vars.now call.now) }
+    ensures values { IfOk result (λ a. AreValues (agg_literals a)) }
 {
     match call {
         AggCall::CountAll => Ok(AggRex::CountAll),
@@ -118,7 +124,8 @@ pub fn made_aggs(
     vars: &[Var],
     made: &[(Var, AggCall)],
 ) -> Result<List<AggRex>, NoMemory>
-    ensures { IfOk result (λ aggs. aggs ≡ spec.made_aggs vars.now made.now) }
+    ensures is { IfOk result (λ aggs. aggs ≡ spec.made_aggs vars.now made.now) }
+    ensures values { IfOk result (λ aggs. AreValues (flat_map agg_literals aggs)) }
 {
     let mut aggs = List::new(alloc);
     for (_, call) in made {
@@ -150,8 +157,10 @@ pub fn agg_kinds(alloc: Global, made: &[(Var, AggCall)]) -> Result<List<Agg>, No
     Ok(aggs)
 }
 
+#[tactic(auto, using(crate::proofs::Literals::both_values))]
 pub fn gen_rex(alloc: Global, vars: &[Var], items: &Generator) -> Result<GenRex, NoMemory>
-    ensures { IfOk result (λ g. g ≡ spec.gen_rex vars.now items.now) }
+    ensures is { IfOk result (λ g. g ≡ spec.gen_rex vars.now items.now) }
+    ensures values { IfOk result (λ g. AreValues (gen_literals g)) }
 {
     match items {
         Generator::Range(a, b) => Ok(GenRex::Range(

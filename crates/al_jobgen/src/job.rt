@@ -4,6 +4,7 @@ ghost use Rattle.std.specs.Prelude.{◌≡◌, ◌≤◌, ◌<◌, IfOk};
 ghost use Rattle.al_phys.specs.Placed.{Placed};
 ghost use Rattle.hy_job.specs.Sound.{SoundJob};
 ghost use Rattle.al_jobgen.specs.JobOf as spec;
+ghost use Rattle.al_jobgen.specs.Literals.{LiteralsAreValues};
 
 use crate::builder::{Builder, add};
 use al_phys::Phys;
@@ -13,7 +14,8 @@ use std::alloc::Global;
 
 /// The job of a physical plan, placed or not.
 pub fn build(alloc: Global, p: &Phys, partitions: u32) -> Result<Job, NoMemory>
-    ensures { IfOk result (λ job. job ≡ spec.job_of p.now partitions) }
+    ensures is { IfOk result (λ job. job ≡ spec.job_of p.now partitions) }
+    ensures values { IfOk result LiteralsAreValues }
 {
     let mut builder = Builder {
         activities: List::new(alloc),
@@ -37,6 +39,7 @@ pub fn job_of(alloc: Global, p: &Phys, partitions: u32) -> Result<Job, NoMemory>
     requires placed { Placed p.now partitions }
     ensures is { IfOk result (λ job. job ≡ spec.job_of p.now partitions) }
     ensures sound { IfOk result SoundJob }
+    ensures values { IfOk result LiteralsAreValues }
 {
     build(alloc, p, partitions)
 }

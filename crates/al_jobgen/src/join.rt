@@ -9,6 +9,8 @@ ghost use Rattle.al_plan.specs.declared.expr.Expr.TheOpen as L;
 ghost use Rattle.al_conj.specs.Conj.{all_of};
 ghost use Rattle.al_phys.specs.Gives as forms;
 ghost use Rattle.al_phys.specs.Properties as equi;
+ghost use Rattle.hy_job.specs.Literals.{literals};
+ghost use Rattle.hy_job.specs.Columns.{AreValues};
 ghost use Rattle.al_jobgen.specs.Columns as spec;
 ghost use Rattle.al_jobgen.specs.Parts as parts;
 
@@ -182,7 +184,8 @@ fn both_of(alloc: Global, ls: &[Var], rs: &[Var]) -> Result<List<Var>, NoMemory>
 
 /// The conjuncts that are no keys, as one condition over columns.
 fn rest_of(alloc: Global, ls: &[Var], rs: &[Var], rest: List<Expr>) -> Result<Rex, NoMemory>
-    ensures { IfOk result (λ r. r ≡ spec.rex_of (ls.now ++ rs.now) (all_of rest)) }
+    ensures is { IfOk result (λ r. r ≡ spec.rex_of (ls.now ++ rs.now) (all_of rest)) }
+    ensures values { IfOk result (λ r. AreValues (literals r)) }
 {
     let both = both_of(alloc, ls, rs)?;
     let residual = all_of(alloc, rest)?;
@@ -197,7 +200,8 @@ fn hash_arg(
     rs: &[Var],
     cond: &Expr,
 ) -> Result<JoinArg, NoMemory>
-    ensures { IfOk result (λ arg. arg ≡ spec.join_arg true outer ls.now rs.now cond.now) }
+    ensures is { IfOk result (λ arg. arg ≡ spec.join_arg true outer ls.now rs.now cond.now) }
+    ensures values { IfOk result (λ arg. AreValues (literals arg.rest)) }
 {
     let all = conjuncts(alloc, cond)?;
     let parts = parts_of(alloc, ls, rs, all.as_slice())?;
@@ -218,7 +222,8 @@ fn loop_arg(
     rs: &[Var],
     cond: &Expr,
 ) -> Result<JoinArg, NoMemory>
-    ensures { IfOk result (λ arg. arg ≡ spec.join_arg false outer ls.now rs.now cond.now) }
+    ensures is { IfOk result (λ arg. arg ≡ spec.join_arg false outer ls.now rs.now cond.now) }
+    ensures values { IfOk result (λ arg. AreValues (literals arg.rest)) }
 {
     let both = both_of(alloc, ls, rs)?;
     let rest = rex_of(alloc, both.as_slice(), cond)?;
@@ -238,7 +243,8 @@ pub fn join_arg(
     rs: &[Var],
     cond: &Expr,
 ) -> Result<JoinArg, NoMemory>
-    ensures { IfOk result (λ arg. arg ≡ spec.join_arg (forms.is_hash form) (forms.is_outer form) ls.now rs.now cond.now) }
+    ensures is { IfOk result (λ arg. arg ≡ spec.join_arg (forms.is_hash form) (forms.is_outer form) ls.now rs.now cond.now) }
+    ensures values { IfOk result (λ arg. AreValues (literals arg.rest)) }
 {
     if is_hash(form) {
         hash_arg(alloc, is_outer(form), ls, rs, cond)

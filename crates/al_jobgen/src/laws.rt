@@ -1,3 +1,4 @@
+ghost use Rattle.al_jobgen.specs.LiteralCases.{ValuesInBoth, TooLargeInSecond, TooLargeInNested};
 ghost use Rattle.al_jobgen.specs.Agree.{ExpressionsAgree, ConditionsAgree, ValuesAgree, CutsAgree, RenamesAgree, KeysAgree, HashesAgree, HashedRowsAgree, InterleavesAgree};
 ghost use Rattle.al_jobgen.specs.Agree.{AssignsAgree, UnnestsAgree, OrdersAgree, SortsAgree, AggregatesAgree, AggregateRowsAgree, KindsAgree};
 ghost use Rattle.al_jobgen.specs.Agree.{ValuesReturn, JoinsAgree, GroupingsAgree, StretchesAgree, DistinctsAgree};
@@ -51,4 +52,11 @@ pub fn column_laws()
     ensures taken { TakenAreValues }
     ensures nested_values { NestedHasValues }
     ensures aggregate_values { AggregatesAreValues }
+{}
+
+/// Jobs whose literals are values, and jobs whose are not. It does nothing.
+pub fn literal_cases()
+    ensures values_in_both { ValuesInBoth }
+    ensures too_large_in_second { TooLargeInSecond }
+    ensures too_large_in_nested { TooLargeInNested }
 {}

@@ -12,7 +12,7 @@ mod operators;
 mod vars;
 
 pub use job::job_of;
-pub use laws::column_laws;
+pub use laws::{column_laws, literal_cases};
 
 #[cfg(test)]
 mod tests;

@@ -1,6 +1,8 @@
 //! Nested plans over columns.
 
 ghost use Rattle.std.specs.Prelude.{◌≡◌, IfOk};
+ghost use Rattle.hy_job.specs.Literals.{n_literals};
+ghost use Rattle.hy_job.specs.Columns.{AreValues};
 ghost use Rattle.al_jobgen.specs.Columns as spec;
 
 use crate::columns::{agg_kinds, columns_of, gen_rex, made_aggs, made_rexes, rex_of, sort_keys};
@@ -13,16 +15,18 @@ use std::alloc::Global;
 
 #[cycle(nested_of)]
 fn boxed_of(alloc: Global, given: &[Var], p: &Plan) -> Result<Boxed<NestedPlan>, NoMemory>
-    ensures { IfOk result (λ n. n ≡ spec.nested_of given.now p.now) }
+    ensures is { IfOk result (λ n. n ≡ spec.nested_of given.now p.now) }
+    ensures values { IfOk result (λ n. AreValues (n_literals n)) }
 {
     Boxed::new(alloc, nested_of(alloc, given, p)?)
 }
 
 /// A nested plan over columns, where `nested` has rows of these variables.
 #[cycle(nested_of)]
-#[tactic(auto, using(crate::proofs::PieceNested::nested_laws))]
+#[tactic(auto, using(crate::proofs::Literals::both_values), unfolding(crate::specs::Columns::nested_of, crate::specs::Opens::plan_shape, crate::specs::Opens::plan_hidden, crate::specs::Opens::nested_shape, crate::specs::Opens::nested_hidden, crate::specs::Opens::row_hidden))]
 pub fn nested_of(alloc: Global, given: &[Var], p: &Plan) -> Result<NestedPlan, NoMemory>
-    ensures { IfOk result (λ n. n ≡ spec.nested_of given.now p.now) }
+    ensures is { IfOk result (λ n. n ≡ spec.nested_of given.now p.now) }
+    ensures values { IfOk result (λ n. AreValues (n_literals n)) }
 {
     match p {
         Plan::Assign { made, input } => {
@@ -89,7 +93,7 @@ pub fn nested_of(alloc: Global, given: &[Var], p: &Plan) -> Result<NestedPlan, N
 }
 
 /// The aggregates of a nested plan.
-#[tactic(auto, using(crate::proofs::PieceNested::aggs_laws))]
+#[tactic(auto, unfolding(crate::specs::Opens::plan_shape, crate::specs::Opens::plan_hidden, crate::specs::Opens::row_hidden))]
 pub fn aggs_of(alloc: Global, p: &Plan) -> Result<List<Agg>, NoMemory>
     ensures { IfOk result (λ aggs. aggs ≡ spec.aggs_of p.now) }
 {

@@ -9,6 +9,10 @@ ghost use Rattle.hy_job.specs.declared.job.Kind.TheVariants as K;
 ghost use Rattle.al_jobgen.specs.Columns as spec;
 ghost use Rattle.al_jobgen.specs.JobOf as steps;
 ghost use Rattle.al_jobgen.specs.Added.{activities_from, own_of};
+ghost use Rattle.hy_job.specs.Literals.{literals};
+ghost use Rattle.hy_job.specs.Columns.{AreValues};
+ghost use Rattle.hy_job.specs.Literals.{group_literals, kind_literals};
+ghost use Rattle.al_jobgen.specs.Literals.{HaveValueLiterals};
 
 use crate::columns::{
     agg_kinds, columns_of, gen_rex, made_aggs, made_rexes, number, old_columns, rex_of, sort_keys,
@@ -23,8 +27,11 @@ use hy_job::{Activity, GroupArg, JoinArg, Kind, Wire};
 use std::alloc::Global;
 
 /// Puts an activity of this number behind the others.
+#[tactic(auto, using(crate::proofs::Literals::more_activities))]
 fn put(activities: &mut List<Activity>, number: u32, kind: Kind, arity: u32) -> Result<(), NoMemory>
-    ensures { OnOk result (activities.new ≡ activities.old ++ activities_from number (steps.step kind arity ∷ [])) }
+    requires { AreValues (kind_literals kind) }
+    ensures is { OnOk result (activities.new ≡ activities.old ++ activities_from number (steps.step kind arity ∷ [])) }
+    ensures values { OnOk result (HaveValueLiterals activities.old → HaveValueLiterals activities.new) }
 {
     activities.push(Activity {
         number,
@@ -77,7 +84,8 @@ fn all_columns(alloc: Global, n: u32) -> Result<List<u32>, NoMemory>
 }
 
 fn assign(alloc: Global, made: &[(Var, Expr)], input: &Phys) -> Result<Kind, NoMemory>
-    ensures { IfOk result (λ kind. kind ≡ K.Assign (spec.made_rexes (meaning.phys_live input.now) made.now)) }
+    ensures is { IfOk result (λ kind. kind ≡ K.Assign (spec.made_rexes (meaning.phys_live input.now) made.now)) }
+    ensures values { IfOk result (λ kind. AreValues (kind_literals kind)) }
 {
     let vars = phys_live(alloc, input)?;
     Ok(Kind::Assign {
@@ -86,7 +94,8 @@ fn assign(alloc: Global, made: &[(Var, Expr)], input: &Phys) -> Result<Kind, NoM
 }
 
 fn select(alloc: Global, cond: &Expr, input: &Phys) -> Result<Kind, NoMemory>
-    ensures { IfOk result (λ kind. kind ≡ K.Select (spec.rex_of (meaning.phys_live input.now) cond.now)) }
+    ensures is { IfOk result (λ kind. kind ≡ K.Select (spec.rex_of (meaning.phys_live input.now) cond.now)) }
+    ensures values { IfOk result (λ kind. AreValues (kind_literals kind)) }
 {
     let vars = phys_live(alloc, input)?;
     Ok(Kind::Select {
@@ -110,7 +119,8 @@ fn keys_in(alloc: Global, keys: &[OrderKey], input: &Phys) -> Result<List<SortKe
 }
 
 fn unnest(alloc: Global, items: &Generator, input: &Phys) -> Result<Kind, NoMemory>
-    ensures { IfOk result (λ kind. kind ≡ K.Unnest (spec.gen_rex (meaning.phys_live input.now) items.now)) }
+    ensures is { IfOk result (λ kind. kind ≡ K.Unnest (spec.gen_rex (meaning.phys_live input.now) items.now)) }
+    ensures values { IfOk result (λ kind. AreValues (kind_literals kind)) }
 {
     let vars = phys_live(alloc, input)?;
     Ok(Kind::Unnest {
@@ -119,7 +129,8 @@ fn unnest(alloc: Global, items: &Generator, input: &Phys) -> Result<Kind, NoMemo
 }
 
 fn subplan(alloc: Global, nested: &Plan, input: &Phys) -> Result<Kind, NoMemory>
-    ensures { IfOk result (λ kind. kind ≡ K.Subplan (spec.nested_of (meaning.phys_live input.now) nested.now)) }
+    ensures is { IfOk result (λ kind. kind ≡ K.Subplan (spec.nested_of (meaning.phys_live input.now) nested.now)) }
+    ensures values { IfOk result (λ kind. AreValues (kind_literals kind)) }
 {
     let vars = phys_live(alloc, input)?;
     Ok(Kind::Subplan {
@@ -128,7 +139,8 @@ fn subplan(alloc: Global, nested: &Plan, input: &Phys) -> Result<Kind, NoMemory>
 }
 
 fn check(alloc: Global, name: &Text, cond: &Expr, input: &Phys) -> Result<Kind, NoMemory>
-    ensures { IfOk result (λ kind. kind ≡ K.Check name.now (spec.rex_of (meaning.phys_live input.now) cond.now)) }
+    ensures is { IfOk result (λ kind. kind ≡ K.Check name.now (spec.rex_of (meaning.phys_live input.now) cond.now)) }
+    ensures values { IfOk result (λ kind. AreValues (kind_literals kind)) }
 {
     let vars = phys_live(alloc, input)?;
     Ok(Kind::Check {
@@ -143,7 +155,8 @@ fn pre_group(
     nested: &Plan,
     input: &Phys,
 ) -> Result<Kind, NoMemory>
-    ensures { IfOk result (λ kind. kind ≡ K.PreGroup (spec.columns_of (meaning.phys_live input.now) (map (λ k. k.1) keys.now)) (spec.nested_of (meaning.phys_live input.now) nested.now)) }
+    ensures is { IfOk result (λ kind. kind ≡ K.PreGroup (spec.columns_of (meaning.phys_live input.now) (map (λ k. k.1) keys.now)) (spec.nested_of (meaning.phys_live input.now) nested.now)) }
+    ensures values { IfOk result (λ kind. AreValues (kind_literals kind)) }
 {
     let vars = phys_live(alloc, input)?;
     Ok(Kind::PreGroup {
@@ -169,7 +182,8 @@ fn put_agg_part(
     made: &[(Var, AggCall)],
     input: &Phys,
 ) -> Result<(), NoMemory>
-    ensures { OnOk result (activities.new ≡ activities.old ++ activities_from number (steps.step (K.AggPart (spec.made_aggs (meaning.phys_live input.now) made.now)) (steps.state_width (map (λ m. spec.agg_kind m.1) made.now)) ∷ [])) }
+    ensures is { OnOk result (activities.new ≡ activities.old ++ activities_from number (steps.step (K.AggPart (spec.made_aggs (meaning.phys_live input.now) made.now)) (steps.state_width (map (λ m. spec.agg_kind m.1) made.now)) ∷ [])) }
+    ensures values { OnOk result (HaveValueLiterals activities.old → HaveValueLiterals activities.new) }
 {
     let vars = phys_live(alloc, input)?;
     let aggs = agg_kinds(alloc, made)?;
@@ -184,7 +198,8 @@ fn group_arg(
     nested: &Plan,
     input: &Phys,
 ) -> Result<GroupArg, NoMemory>
-    ensures { IfOk result (λ arg. arg ≡ steps.group_arg (spec.columns_of (meaning.phys_live input.now) (map (λ k. k.1) keys.now)) (Some nested.now) input.now) }
+    ensures is { IfOk result (λ arg. arg ≡ steps.group_arg (spec.columns_of (meaning.phys_live input.now) (map (λ k. k.1) keys.now)) (Some nested.now) input.now) }
+    ensures values { IfOk result (λ arg. AreValues (group_literals arg.nested)) }
 {
     let vars = phys_live(alloc, input)?;
     let nested = nested_of(alloc, vars.as_slice(), nested)?;
@@ -215,8 +230,9 @@ fn put_group(
     input: &Phys,
     arity: u32,
 ) -> Result<(), NoMemory>
-    ensures { OnOk result (activities.new ≡ activities.old ++ activities_from number (let arg = steps.group_arg (spec.columns_of (meaning.phys_live input.now) (map (λ k. k.1) keys.now)) (Some nested.now) input.now in
+    ensures is { OnOk result (activities.new ≡ activities.old ++ activities_from number (let arg = steps.group_arg (spec.columns_of (meaning.phys_live input.now) (map (λ k. k.1) keys.now)) (Some nested.now) input.now in
         steps.step (K.GroupBuild arg) (length keys.now + steps.state_width (spec.aggs_of nested.now)) ∷ steps.step (K.GroupEmit arg) arity ∷ [])) }
+    ensures values { OnOk result (HaveValueLiterals activities.old → HaveValueLiterals activities.new) }
 {
     let second = next(number)?;
     let built = group_width(alloc, keys, nested)?;
@@ -227,7 +243,8 @@ fn put_group(
 }
 
 fn distinct_arg(alloc: Global, input: &Phys) -> Result<GroupArg, NoMemory>
-    ensures { IfOk result (λ arg. arg ≡ steps.group_arg (steps.all_columns input.now) None input.now) }
+    ensures is { IfOk result (λ arg. arg ≡ steps.group_arg (steps.all_columns input.now) None input.now) }
+    ensures values { IfOk result (λ arg. AreValues (group_literals arg.nested)) }
 {
     let columns = live_width(alloc, input)?;
     Ok(GroupArg {
@@ -243,8 +260,9 @@ fn put_distinct(
     input: &Phys,
     arity: u32,
 ) -> Result<(), NoMemory>
-    ensures { OnOk result (activities.new ≡ activities.old ++ activities_from number (let arg = steps.group_arg (steps.all_columns input.now) None input.now in
+    ensures is { OnOk result (activities.new ≡ activities.old ++ activities_from number (let arg = steps.group_arg (steps.all_columns input.now) None input.now in
         steps.step (K.GroupBuild arg) (length (meaning.phys_live input.now)) ∷ steps.step (K.GroupEmit arg) arity ∷ [])) }
+    ensures values { OnOk result (HaveValueLiterals activities.old → HaveValueLiterals activities.new) }
 {
     let second = next(number)?;
     let built = live_width(alloc, input)?;
@@ -262,8 +280,9 @@ fn put_sort(
     input: &Phys,
     arity: u32,
 ) -> Result<(), NoMemory>
-    ensures { OnOk result (activities.new ≡ activities.old ++ activities_from number (let by = spec.sort_keys (meaning.phys_live input.now) keys.now in
+    ensures is { OnOk result (activities.new ≡ activities.old ++ activities_from number (let by = spec.sort_keys (meaning.phys_live input.now) keys.now in
         steps.step (K.SortBuild by) (length (meaning.phys_live input.now)) ∷ steps.step (K.SortEmit by) arity ∷ [])) }
+    ensures values { OnOk result (HaveValueLiterals activities.old → HaveValueLiterals activities.new) }
 {
     let second = next(number)?;
     let built = live_width(alloc, input)?;
@@ -280,7 +299,8 @@ fn join_of(
     left: &Phys,
     right: &Phys,
 ) -> Result<JoinArg, NoMemory>
-    ensures { IfOk result (λ arg. arg ≡ spec.join_arg (forms.is_hash form) (forms.is_outer form) (meaning.phys_live left.now) (meaning.phys_live right.now) cond.now) }
+    ensures is { IfOk result (λ arg. arg ≡ spec.join_arg (forms.is_hash form) (forms.is_outer form) (meaning.phys_live left.now) (meaning.phys_live right.now) cond.now) }
+    ensures values { IfOk result (λ arg. AreValues (literals arg.rest)) }
 {
     let ls = phys_live(alloc, left)?;
     let rs = phys_live(alloc, right)?;
@@ -298,8 +318,9 @@ fn put_join(
     right: &Phys,
     arity: u32,
 ) -> Result<(), NoMemory>
-    ensures { OnOk result (activities.new ≡ activities.old ++ activities_from number (let arg = spec.join_arg (forms.is_hash form) (forms.is_outer form) (meaning.phys_live left.now) (meaning.phys_live right.now) cond.now in
+    ensures is { OnOk result (activities.new ≡ activities.old ++ activities_from number (let arg = spec.join_arg (forms.is_hash form) (forms.is_outer form) (meaning.phys_live left.now) (meaning.phys_live right.now) cond.now in
         steps.step (K.JoinBuild arg) (length (meaning.phys_live right.now)) ∷ steps.step (K.JoinProbe arg) arity ∷ [])) }
+    ensures values { OnOk result (HaveValueLiterals activities.old → HaveValueLiterals activities.new) }
 {
     let second = next(number)?;
     let built = live_width(alloc, right)?;
@@ -317,7 +338,8 @@ pub fn put_own(
     number: u32,
     p: &Phys,
 ) -> Result<(), NoMemory>
-    ensures { OnOk result (activities.new ≡ activities.old ++ activities_from number (own_of p.now)) }
+    ensures is { OnOk result (activities.new ≡ activities.old ++ activities_from number (own_of p.now)) }
+    ensures values { OnOk result (HaveValueLiterals activities.old → HaveValueLiterals activities.new) }
 {
     let arity = live_width(alloc, p)?;
     match p {

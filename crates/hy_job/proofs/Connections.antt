@@ -124,7 +124,7 @@ one_target (x ∷ es) a to few h e m is = by_cases (nat_eq x.from a)
 
 -- ---- activities by number
 
-at_most_one : (k : Kind) → may_leave k ≤ 1
+pub at_most_one : (k : Kind) → may_leave k ≤ 1
 at_most_one (K.SortBuild keys) = omega arith
 at_most_one (K.GroupBuild arg) = omega arith
 at_most_one (K.JoinBuild arg) = omega arith

@@ -1,5 +1,5 @@
 -- The worked cases of groups, states and joins.
-use Rattle.std.proofs.Common.{◌≡◌, Some, [], ◌∷◌, length, refl, ap, sym, subst, ◌∙◌, arith, inl, inr}
+use Rattle.std.proofs.Common.{◌≡◌, Some, [], ◌∷◌, length, refl, ap, arith, inl, inr}
 use Rattle.std.specs.Int.{int_wrap}
 use Rattle.std.proofs.lemmas.List.Sorted.{IsPermutation-refl}
 use Rattle.al_value.specs.declared.value.Value.TheVariants as V
@@ -9,14 +9,15 @@ use Rattle.al_func.proofs.RexLaws.{is_sound_laws, eval_rex-Lit}
 use Rattle.al_agg.specs.Agg.{agg}
 use Rattle.al_agg.specs.Part.{state_fields, IsState, high_half, low_half}
 use Rattle.hy_job.specs.declared.nested.AggRex.TheVariants as C
-use Rattle.hy_job.specs.declared.nested.NestedPlan.TheVariants as N
 use Rattle.hy_job.specs.Nested.{root_aggs}
 use Rattle.hy_job.specs.Sound.{IsGroupNested, states_width, built_fields, made_fields}
 use Rattle.hy_job.specs.Cases.{counting, GroupingIsSound, StatesHaveFields, StatesAreJoined, NullHasNoPartner, int}
-use Rattle.hy_job.proofs.NestedLaws.{sound_Aggregate, sound_Nested, row_wise-Aggregate, chain-Nested, aggregate-Aggregate, root_aggs-Aggregate, width-Nested}
+use Rattle.hy_job.specs.declared.nested.NestedPlan.TheBlock.{shape-the_row-NestedPlan-0, hidden-the_row-NestedPlan-0}
+use denote.Hole.Carrier.{hidden}
 
 counts : root_aggs counting ≡ C.CountAll ∷ C.Sum (R.Col 1) ∷ []
-counts = root_aggs-Aggregate (C.CountAll ∷ C.Sum (R.Col 1) ∷ []) N.Nested
+unfolding shape-the_row-NestedPlan-0 hidden-the_row-NestedPlan-0 hidden
+counts = refl
 
 five : built_fields (Some counting) ≡ 5
 five = ap states_width counts
@@ -25,14 +26,8 @@ two : made_fields (Some counting) ≡ 2
 two = ap length counts
 
 group_nested : IsGroupNested (Some counting) 2
-group_nested = (
-  record {
-    root = aggregate-Aggregate (C.CountAll ∷ C.Sum (R.Col 1) ∷ []) N.Nested;
-    each = sound_Aggregate (C.CountAll ∷ C.Sum (R.Col 1) ∷ []) N.Nested 2
-        (sound_Nested 2 tt, (tt, ((subst (λ w. IsSound w (R.Col 1)) (sym (width-Nested 2)) column_one, tt), tt)));
-  },
-  row_wise-Aggregate (C.CountAll ∷ C.Sum (R.Col 1) ∷ []) N.Nested ∙ chain-Nested,
-)
+unfolding shape-the_row-NestedPlan-0 hidden-the_row-NestedPlan-0 hidden
+group_nested = (record { root = refl; each = (tt, (tt, ((column_one, tt), tt))) }, refl)
   where
     column_one : IsSound 2 (R.Col 1)
     column_one = simp is_sound_laws

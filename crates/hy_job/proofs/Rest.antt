@@ -1,8 +1,8 @@
 -- The laws of the two forms.
-use Rattle.std.proofs.Common.{◌≡◌, ℕ, Bool, false, true≢false, List, [], ◌∷◌, ◌++◌, sym, refl, ap, ◌∙◌, subst, append_assoc}
+use Rattle.std.proofs.Common.{◌≡◌, ℕ, Bool, false, true≢false, List, [], ◌∷◌, ◌++◌, sym, refl, ap, ◌∙◌, subst, append_assoc, append-nil}
 use Rattle.std.specs.List.Sorted.{IsPermutation}
 use Rattle.std.proofs.lemmas.List.Sorted.{IsPermutation-refl, IsPermutation-trans, IsPermutation-append_right}
-use Rattle.hy_job.specs.Rest.{Free, IsOpen, AnyOrder, InOrderContinues, FreeContinues, ContinuesThen, InOrderFinished, NoneIsOpen}
+use Rattle.hy_job.specs.Rest.{Free, IsOpen, AnyOrder, InOrderContinues, FreeContinues, HeldContinues, ContinuesThen, IdleContinues, InOrderAlive, FreeAlive, HeldAlive, InOrderFinished, FreeFinished, HeldFinished, NoneIsOpen}
 
 pub in_order_continues : {F A : Type 0} (may may' : List F → Type 0) (out out' : List F → List A → Type 0) → InOrderContinues may may' out out'
 in_order_continues may may' out out' owed owed' held held' fed sent opens step = record {
@@ -18,6 +18,14 @@ continues_then first second third fed fed' sent sent' a b = record {
       (subst (λ y. first (fed ++ (fed' ++ t)) y) (sym (append_assoc sent sent' p)) (a.back (fed' ++ t) (sent' ++ p) (b.back t p h)));
 }
 
+-- what is owed and an output, moved as the output may be
+settled : {F A : Type 0} (owed : List A) (held : List F) (out : List F → List A → Type 0) (t : List F) (q p : List A) → AnyOrder out → out (held ++ t) q → IsPermutation (owed ++ q) p → Free owed held out t p
+settled [] held out t q p any output all = record { rest = p; output = any (held ++ t) q p output all; among = IsPermutation-refl p; alone = λ _. refl }
+settled (x ∷ xs) held out t q p any output all = record { rest = q; output = output; among = all; alone = λ e. absurd (no e) }
+  where
+    no : (x ∷ xs) ≡ [] → ⊥
+    no e = cc
+
 pub free_continues : {F A : Type 0} (may may' : List F → Type 0) (out out' : List F → List A → Type 0) → FreeContinues may may' out out'
 free_continues may may' out out' owed owed' held held' fed sent any opens step = record {
   back = λ t p h.
@@ -25,13 +33,38 @@ free_continues may may' out out' owed owed' held held' fed sent any opens step =
       let all = IsPermutation-trans (owed ++ q.0) (sent ++ (owed' ++ h.1.rest)) (sent ++ p) q.2 (IsPermutation-append_right sent (owed' ++ h.1.rest) p h.1.among) in
       (opens t h.0, settled owed held out (fed ++ t) q.0 (sent ++ p) any q.1 all);
 }
-  where
-    settled : {F A : Type 0} (owed : List A) (held : List F) (out : List F → List A → Type 0) (t : List F) (q p : List A) → AnyOrder out → out (held ++ t) q → IsPermutation (owed ++ q) p → Free owed held out t p
-    settled [] held out t q p any output all = record { rest = p; output = any (held ++ t) q p output all; among = IsPermutation-refl p; alone = λ _. refl }
-    settled (x ∷ xs) held out t q p any output all = record { rest = q; output = output; among = all; alone = λ e. absurd (no e) }
-      where
-        no : (x ∷ xs) ≡ [] → ⊥
-        no e = cc
+
+pub held_continues : {F A : Type 0} (may may' stands stands' : List F → Type 0) (out out' : List F → List A → Type 0) → HeldContinues may may' stands stands' out out'
+held_continues may may' stands stands' out out' owed owed' fed sent any opens step = record {
+  back = λ t p h. (
+    opens t h.0,
+    λ held is.
+        let s = step held is in
+        let f = h.1 s.0 s.1 in
+        let q = s.2 t f.rest h.0 f.output in
+        settled owed held out (fed ++ t) q.0 (sent ++ p) any q.1 (IsPermutation-trans (owed ++ q.0) (sent ++ (owed' ++ f.rest)) (sent ++ p) q.2 (IsPermutation-append_right sent (owed' ++ f.rest) p f.among)),
+  );
+}
+
+pub idle_continues : {F A : Type 0} (rest : List F → List A → Type 0) → IdleContinues rest
+idle_continues rest = record { back = λ t p h. h }
+
+-- ---- something to put
+
+pub in_order_alive : {F A : Type 0} (may : List F → Type 0) (out : List F → List A → Type 0) → InOrderAlive may out
+in_order_alive may out owed held some t h = let q = some t h in (owed ++ q.0, (h, record { rest = q.0; output = q.1; is = refl }))
+
+-- the output behind what is owed
+behind : {F A : Type 0} (owed : List A) (held : List F) (out : List F → List A → Type 0) (t : List F) (q : List A) → out (held ++ t) q → Free owed held out t (owed ++ q)
+behind owed held out t q output = record { rest = q; output = output; among = IsPermutation-refl (owed ++ q); alone = λ e. ap (λ x. x ++ q) e }
+
+pub free_alive : {F A : Type 0} (may : List F → Type 0) (out : List F → List A → Type 0) → FreeAlive may out
+free_alive may out owed held some t h = let q = some t h in (owed ++ q.0, (h, behind owed held out t q.0 q.1))
+
+pub held_alive : {F A : Type 0} (may stands : List F → Type 0) (out : List F → List A → Type 0) → HeldAlive may stands out
+held_alive may stands out owed some t h = let q = some t h in (owed ++ q.0, (h, λ held is. behind owed held out t q.0 (q.1 held is)))
+
+-- ---- nothing left
 
 -- fewer inputs are to come
 pub open_from : {A : Type 0} (ended ended' : ℕ → Bool) → ((k : ℕ) → ended' k ≡ false → ended k ≡ false) → (t : List (ℕ × A)) → IsOpen ended' t → IsOpen ended t
@@ -43,8 +76,26 @@ none_open ended all [] h = refl
 none_open ended all (x ∷ xs) h = absurd (true≢false (sym (all x.0) ∙ h.0))
 
 pub in_order_finished : {F A : Type 0} (may : List F → Type 0) (out : List F → List A → Type 0) → InOrderFinished may out
-in_order_finished may out no_more none = record {
+in_order_finished may out may_none no_more nothing none = record {
+  some = (may_none, record { rest = []; output = nothing; is = refl });
   only = λ t p h.
       let e = no_more t h.0 in
       (e, h.1.is ∙ none h.1.rest (subst (λ l. out l h.1.rest) e h.1.output));
+}
+
+pub free_finished : {F A : Type 0} (may : List F → Type 0) (out : List F → List A → Type 0) → FreeFinished may out
+free_finished may out may_none no_more nothing none = record {
+  some = (may_none, behind [] [] out [] [] nothing);
+  only = λ t p h.
+      let e = no_more t h.0 in
+      (e, h.1.alone refl ∙ none h.1.rest (subst (λ l. out l h.1.rest) e h.1.output));
+}
+
+pub held_finished : {F A : Type 0} (may stands : List F → Type 0) (out : List F → List A → Type 0) → HeldFinished may stands out
+held_finished may stands out may_none no_more one each = record {
+  some = (may_none, λ held is. behind [] held out [] [] (subst (λ l. out l []) (sym (append-nil held)) (each held is).0));
+  only = λ t p h.
+      let e = no_more t h.0 in
+      let f = h.1 one.0 one.1 in
+      (e, f.alone refl ∙ (each one.0 one.1).1 f.rest (subst (λ l. out l f.rest) (ap (λ x. one.0 ++ x) e ∙ append-nil one.0) f.output));
 }

@@ -8,9 +8,9 @@ use Rattle.hy_job.specs.declared.job.Kind.TheVariants as K
 use Rattle.hy_job.specs.declared.job.Wire.TheVariants as W
 use Rattle.hy_job.specs.Columns.{Row, cut, dealt}
 use Rattle.hy_job.specs.Sound.{edges_from}
-use Rattle.hy_job.specs.Runs.{Taken, Receives, rows_at, sent_by}
+use Rattle.hy_job.specs.Runs.{Taken, Receives, IsSender, rows_at, sent_by}
 use Rattle.hy_job.specs.Cases.{act, wire, stage}
-use Rattle.hy_job.specs.Settled.{Open, Rows, Close, WriterWord, Completed, IsCompleted, IsFailed, HasWords, IsCaused, EachTask, Settled, taken_rows, taken_of, put_rows, is_fail}
+use Rattle.hy_job.specs.Settled.{Open, Rows, Close, WriterWord, Completed, IsCompleted, IsFailed, HasWords, IsCaused, EachTask, TakesFrom, Settled, taken_rows, taken_of, put_rows, is_fail}
 use Rattle.hy_job.specs.SettledCases.{listing, scan_record, result_record, listing_records, ListingSettles}
 use Rattle.hy_job.proofs.Members.{no_bool, in_none, in_cases}
 
@@ -25,7 +25,7 @@ dealt_from [] k = refl
 dealt_from (r ∷ rows) k =
     rw (mod-one k) (ap (λ xs. r ∷ xs) (dealt_from rows (k + 1)))
 
-dealt_whole : (rows : List Row) → dealt 1 0 rows ≡ rows
+pub dealt_whole : (rows : List Row) → dealt 1 0 rows ≡ rows
 dealt_whole rows = dealt_from rows 0
 
 module _ (set : List ℕ) (rows : List Row) (on : List Row) where
@@ -93,11 +93,15 @@ module _ (set : List ℕ) (rows : List Row) (on : List Row) where
   result_words : HasWords (listing set) 1 0 (result_record rows on)
   result_words = record { words = λ to lt is. absurd is; none = λ to lt other. refl }
 
+  of_scan : IsSender (listing set) (act 1 (K.Result (0 ∷ [])) 1) 0 0 0
+  of_scan = record { known = omega arith; within = omega arith; sends = refl }
+
   settled : on ≡ map (cut (0 ∷ [])) rows → Settled (listing set) (stage (0 ∷ 1 ∷ []) ∷ []) (listing_records rows on)
   settled e = record {
     completed = each_two (λ a j. (listing_records rows on a.number j).outcome ≡ Completed → IsCompleted (listing set) a j (listing_records rows on a.number j)) (λ _. scan_done) (λ _. result_done e);
     failed = each_two (λ a j. (listing_records rows on a.number j).outcome ≢ Completed → IsFailed (listing set) a j (listing_records rows on a.number j)) (λ no. absurd (no refl)) (λ no. absurd (no refl));
     words = each_two (λ a j. HasWords (listing set) a.number j (listing_records rows on a.number j)) scan_words result_words;
+    taken = each_two (λ a j. TakesFrom (listing set) a j (listing_records rows on a.number j).took) tt (of_scan, (of_scan, (of_scan, tt)));
     delivered = λ x s r m n ls lr. elim (in_cases (wire 0 1 W.OneToOne) x [] m) [
       | inl is ↦ subst (λ y. taken_of y.input s (listing_records rows on y.to r).took ≡ (listing_records rows on y.from s).put r) is (at_zero s r (omega (arith, ls)) (omega (arith, lr)))
       | inr none ↦ absurd (in_none x none)

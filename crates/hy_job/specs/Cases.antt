@@ -7,7 +7,7 @@ use Rattle.al_agg.specs.declared.agg.Agg.TheVariants as A
 use Rattle.hy_job.specs.declared.nested.AggRex.TheVariants as C
 use Rattle.hy_job.specs.declared.nested.NestedPlan.{NestedPlan}
 use Rattle.hy_job.specs.declared.nested.NestedPlan.TheVariants as N
-use Rattle.hy_job.specs.Columns.{joined}
+use Rattle.hy_job.specs.Columns.{Row, joined}
 use Rattle.hy_job.specs.Runs.{Output}
 use Rattle.al_func.specs.declared.func.Func.TheVariants as F
 use Rattle.al_func.specs.declared.rex.Rex.{Rex}
@@ -129,6 +129,10 @@ StatesHaveFields = (set : List ℕ) (built emitted : ℕ) → SoundJob (grouping
 
 abbrev pub int : ℕ → Value
 int n = V.Int (pos n)
+
+-- a row of one value
+abbrev pub row_of : ℕ → Row
+row_of n = int n ∷ []
 
 -- states of two rows and of one are joined to a count of three, and fields that are no state count nothing
 abbrev pub StatesAreJoined : Type 0

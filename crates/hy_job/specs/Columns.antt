@@ -1,6 +1,6 @@
 -- Rows by column: what expressions, keys, aggregates and joins give over them.
 use Rattle.std.specs.Prelude.{◌≡◌, ◌≢◌, ◌⊎◌, ◌-◌, ◌%◌, ◌&&◌, ℕ, Bool, true, false, if◌then◌else◌, nat_eq, List, [], ◌∷◌, ◌++◌, map, filter, length, replicate, slice_index_or}
-use Rattle.std.specs.List.{flat_map, list_all, zip, All, AllPairs, AllAdjacentBelow, Contains, enumerate_from}
+use Rattle.std.specs.List.{flat_map, list_all, zip, All, AllByRecursion, AllPairs, AllAdjacentBelow, Contains, enumerate_from}
 use Rattle.std.specs.List.Sorted.{IsPermutation}
 use Rattle.std.specs.declared.cmp.Ordering.{Ordering}
 use Rattle.std.specs.declared.cmp.Ordering.TheVariants.{Equal}
@@ -8,7 +8,7 @@ use Rattle.std.specs.Ordering.{ordering_then, ordering_reverse}
 use Rattle.al_value.specs.declared.value.Value.{Value}
 use Rattle.al_value.specs.declared.value.Value.TheVariants as V
 use Rattle.al_value.specs.declared.settings.SortKey.{SortKey}
-use Rattle.al_value.specs.Value.{value_cmp}
+use Rattle.al_value.specs.Value.{IsValue, value_cmp}
 use Rattle.al_value.specs.Field.{field_bytes}
 use Rattle.al_value.specs.Hash.{fnv, fnv_offset}
 use Rattle.al_func.specs.declared.rex.Rex.{Rex}
@@ -28,6 +28,10 @@ use Rattle.hy_job.specs.declared.job.JoinArg.{JoinArg}
 -- the values of a row, in the order of its columns
 abbrev pub Row : Type 0
 Row = List Value
+
+-- each is a value
+abbrev pub AreValues : Row → Type 0
+AreValues = AllByRecursion IsValue
 
 -- the value of a column, and NULL for one out of range
 abbrev pub column : Row → ℕ → Value

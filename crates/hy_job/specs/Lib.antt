@@ -1,5 +1,6 @@
 pub mod Columns
 pub mod Nested
+pub mod Literals
 pub mod Sound
 pub mod Stages
 pub mod Finding
@@ -7,5 +8,9 @@ pub mod Runs
 pub mod Exchange
 pub mod Rest
 pub mod Settled
+pub mod Boxes
+pub mod Drivers
+pub mod RunLaws
 pub mod Cases
 pub mod SettledCases
+pub mod RunCases

@@ -16,6 +16,10 @@ pub record Free {F A : Type 0} (owed : List A) (held : List F) (out : List F →
   pub among : IsPermutation (owed ++ rest) put
   pub alone : owed ≡ [] → put ≡ rest
 
+-- free, for each list of rows that a state which keeps no rows may stand for
+abbrev pub FreeForEach : {F A : Type 0} → List A → (List F → Type 0) → (List F → List A → Type 0) → List F → List A → Type 0
+FreeForEach {F} {A} owed stands out took put = (held : List F) → stands held → Free owed held out took put
+
 -- nothing comes of an input that has ended
 abbrev pub IsOpen : {A : Type 0} → (ℕ → Bool) → List (ℕ × A) → Type 0
 IsOpen ended [] = Unit {0}
@@ -25,8 +29,13 @@ IsOpen ended (x ∷ xs) = (ended x.0 ≡ false) × IsOpen ended xs
 pub record Continues {F A : Type 0} (old : List F → List A → Type 0) (fed : List F) (sent : List A) (new : List F → List A → Type 0) : Type 0 where
   pub back : (took : List F) (put : List A) → new took put → old (fed ++ took) (sent ++ put)
 
--- nothing is taken any more, and nothing put
+-- for each way in which the taking may go on there is something that may be put
+abbrev pub Alive : {F A : Type 0} → (List F → Type 0) → (List F → List A → Type 0) → Type 0
+Alive {F} {A} may rest = (took : List F) → may took → (put : List A) × rest took put
+
+-- to take nothing any more and to put nothing is all that it may do, and that it may
 pub record Finished {F A : Type 0} (rest : List F → List A → Type 0) : Type 0 where
+  pub some : rest [] []
   pub only : (took : List F) (put : List A) → rest took put → (took ≡ []) × (put ≡ [])
 
 -- the outputs may come in any order
@@ -55,10 +64,47 @@ abbrev pub ContinuesThen : {F A : Type 0} → (List F → List A → Type 0) →
 ContinuesThen {F} {A} first second third = (fed fed' : List F) (sent sent' : List A)
     → Continues first fed sent second → Continues second fed' sent' third → Continues first (fed ++ fed') (sent ++ sent') third
 
+-- a state that keeps no rows, but stands for lists of them: for each list for which it stood before the step there is one for
+-- which it stands after it, of which the outputs tell as they do of rows that are held
+abbrev pub HeldContinues : {F A : Type 0} → (List F → Type 0) → (List F → Type 0) → (List F → Type 0) → (List F → Type 0) → (List F → List A → Type 0) → (List F → List A → Type 0) → Type 0
+HeldContinues {F} {A} may may' stands stands' out out' = (owed owed' : List A) (fed : List F) (sent : List A)
+    → AnyOrder out
+    → ((took : List F) → may' took → may (fed ++ took))
+    → ((held : List F) → stands held → (held' : List F) × stands' held' × ((took : List F) (rest : List A) → may' took → out' (held' ++ took) rest → (old : List A) × out (held ++ (fed ++ took)) old × IsPermutation (owed ++ old) (sent ++ (owed' ++ rest))))
+    → Continues (λ took put. may took × FreeForEach owed stands out took put) fed sent (λ took put. may' took × FreeForEach owed' stands' out' took put)
+
+-- a step that changes nothing
+abbrev pub IdleContinues : {F A : Type 0} → (List F → List A → Type 0) → Type 0
+IdleContinues rest = Continues rest [] [] rest
+
+-- where there is an output for what is held and each way in which the taking may go on, there is something to put
+abbrev pub InOrderAlive : {F A : Type 0} → (List F → Type 0) → (List F → List A → Type 0) → Type 0
+InOrderAlive {F} {A} may out = (owed : List A) (held : List F) → ((took : List F) → may took → (rest : List A) × out (held ++ took) rest)
+    → Alive may (λ took put. may took × InOrder owed held out took put)
+
+abbrev pub FreeAlive : {F A : Type 0} → (List F → Type 0) → (List F → List A → Type 0) → Type 0
+FreeAlive {F} {A} may out = (owed : List A) (held : List F) → ((took : List F) → may took → (rest : List A) × out (held ++ took) rest)
+    → Alive may (λ took put. may took × Free owed held out took put)
+
+-- so there is where one output serves all lists for which a state stands
+abbrev pub HeldAlive : {F A : Type 0} → (List F → Type 0) → (List F → Type 0) → (List F → List A → Type 0) → Type 0
+HeldAlive {F} {A} may stands out = (owed : List A) → ((took : List F) → may took → (rest : List A) × ((held : List F) → stands held → out (held ++ took) rest))
+    → Alive may (λ took put. may took × FreeForEach owed stands out took put)
+
 -- where nothing may come any more, nothing is owed and nothing held, an output of nothing for nothing has finished
 abbrev pub InOrderFinished : {F A : Type 0} → (List F → Type 0) → (List F → List A → Type 0) → Type 0
-InOrderFinished {F} {A} may out = ((took : List F) → may took → took ≡ []) → ((rest : List A) → out [] rest → rest ≡ [])
+InOrderFinished {F} {A} may out = may [] → ((took : List F) → may took → took ≡ []) → out [] [] → ((rest : List A) → out [] rest → rest ≡ [])
     → Finished (λ took put. may took × InOrder [] [] out took put)
+
+abbrev pub FreeFinished : {F A : Type 0} → (List F → Type 0) → (List F → List A → Type 0) → Type 0
+FreeFinished {F} {A} may out = may [] → ((took : List F) → may took → took ≡ []) → out [] [] → ((rest : List A) → out [] rest → rest ≡ [])
+    → Finished (λ took put. may took × Free [] [] out took put)
+
+-- so has a state that stands for some list, and of each such list has no output but that of nothing
+abbrev pub HeldFinished : {F A : Type 0} → (List F → Type 0) → (List F → Type 0) → (List F → List A → Type 0) → Type 0
+HeldFinished {F} {A} may stands out = may [] → ((took : List F) → may took → took ≡ []) → ((held : List F) × stands held)
+    → ((held : List F) → stands held → out held [] × ((rest : List A) → out held rest → rest ≡ []))
+    → Finished (λ took put. may took × FreeForEach [] stands out took put)
 
 -- where every input has ended, nothing comes
 abbrev pub NoneIsOpen : Type 0 → Type 0

@@ -15,7 +15,7 @@ use Rattle.hy_job.specs.declared.job.Wire.TheVariants as W
 use Rattle.hy_job.specs.declared.job.Activity.{Activity}
 use Rattle.hy_job.specs.declared.job.Edge.{Edge}
 use Rattle.hy_job.specs.declared.job.Job.{Job}
-use Rattle.hy_job.specs.Columns.{Row, dealt, holds, cut, assigned, expanded, keys_cmp, agg_of, state_row, joined, key_of, Group, rows_in, IsGrouping, ArePieces, part_of, Interleaves}
+use Rattle.hy_job.specs.Columns.{Row, AreValues, dealt, holds, cut, assigned, expanded, keys_cmp, agg_of, state_row, joined, key_of, Group, rows_in, IsGrouping, ArePieces, part_of, Interleaves}
 use Rattle.hy_job.specs.Nested.{root_aggs, n_state, IsNested, IsPreGrouped}
 use Rattle.hy_job.specs.Sound.{inputs, edges_at, edges_from, width_in}
 
@@ -97,6 +97,31 @@ IsGroupOf arg handed out =
     (groups : List Group) × (made : List Row) × IsGrouping (first_columns arg) handed groups
     × AllZip (λ g row. (values : Row) × AreGroupValues arg.nested (map (drop (length arg.keys)) (rows_in g)) values × (row ≡ key_of (first_columns arg) g.0 ++ values)) groups made
     × IsPermutation made out
+
+-- ---- who sends
+
+-- the task of partition `r` receives over the wire from the task of partition `j`
+abbrev pub ReceivesOver : Wire → ℕ → ℕ → ℕ → Type 0
+ReceivesOver W.OneToOne partitions j r = r ≡ j
+ReceivesOver (W.Hash columns) partitions j r = r < partitions
+ReceivesOver W.Broadcast partitions j r = r < partitions
+ReceivesOver W.Gather partitions j r = r ≡ 0
+ReceivesOver (W.Merge keys) partitions j r = r ≡ 0
+
+-- it receives over the first of these edges, if there is one
+abbrev pub SendsBy : List Edge → ℕ → ℕ → ℕ → Type 0
+SendsBy [] partitions j r = ⊥
+SendsBy (e ∷ es) partitions j r = ReceivesOver e.wire partitions j r
+
+-- partition `r` is a receiver of what the activity's task of partition `j` puts
+abbrev pub IsReceiver : Job → ℕ → ℕ → ℕ → Type 0
+IsReceiver job a j r = SendsBy (edges_from job a) job.partitions j r
+
+-- the task of partition `s` is a sender of what the activity's task of partition `j` takes at an input
+pub record IsSender (job : Job) (a : Activity) (j input s : ℕ) : Type 0 where
+  pub known : input < inputs a.kind
+  pub within : s < job.partitions
+  pub sends : SendsBy (edges_at job a.number input) job.partitions s j
 
 -- ---- what is made
 
@@ -189,11 +214,11 @@ pub record TaskRun (job : Job) (a : Activity) (j : ℕ) (took : Took) (put : Put
 
 -- ---- runs that go on
 
--- a row that may still come: of one of the inputs and partitions, and of no sender that has ended there
-pub record MayCome (job : Job) (a : Activity) (ended : ℕ → ℕ → Bool) (t : Taken) : Type 0 where
-  pub input : t.input < inputs a.kind
-  pub sender : t.sender < job.partitions
+-- a row that may still come to the task of partition `j`: of a sender that has not ended, as wide as its rows are, and of values
+pub record MayCome (job : Job) (a : Activity) (j : ℕ) (ended : ℕ → ℕ → Bool) (t : Taken) : Type 0 where
+  pub of : IsSender job a j t.input t.sender
   pub fits : length t.row ≡ width_in job a.number t.input
+  pub values : AreValues t.row
   pub to_come : ended t.input t.sender ≡ false
 
 -- the one with more rows behind what was taken
@@ -208,4 +233,4 @@ pub record GoesOn (partitions : ℕ) (put whole : Put) : Type 0 where
 -- however the taking goes on, what was put can go on so that it is a whole run
 abbrev pub TaskPart : Job → Activity → ℕ → (ℕ → ℕ → Bool) → Took → Put → Type 0
 TaskPart job a j ended took put =
-    (more : List Taken) → AllByRecursion (MayCome job a ended) more → (whole : Put) × GoesOn job.partitions put whole × TaskRun job a j (with_more took more) whole
+    (more : List Taken) → AllByRecursion (MayCome job a j ended) more → (whole : Put) × GoesOn job.partitions put whole × TaskRun job a j (with_more took more) whole

@@ -1,19 +1,18 @@
 -- What the tasks of a job took, put and handed on, and when all of it fits together.
 use Rattle.std.specs.Prelude.{◌≡◌, ◌≢◌, ◌⊎◌, ◌<◌, ℕ, nat_eq, Bool, true, false, ◌&&◌, List, [], ◌∷◌, ◌++◌, map, filter}
-use Rattle.std.specs.List.{flat_map, list_any, All, Contains}
+use Rattle.std.specs.List.{flat_map, list_any, All, AllByRecursion, Contains}
+use Rattle.std.specs.List.Sorted.{IsPermutation}
 use Rattle.hy_job.specs.declared.job.Kind.{Kind}
 use Rattle.hy_job.specs.declared.job.Kind.TheVariants as K
-use Rattle.hy_job.specs.declared.job.Wire.{Wire}
-use Rattle.hy_job.specs.declared.job.Wire.TheVariants as W
 use Rattle.hy_job.specs.declared.job.Activity.{Activity}
 use Rattle.hy_job.specs.declared.job.Edge.{Edge}
 use Rattle.hy_job.specs.declared.job.Block.{Block}
 use Rattle.hy_job.specs.declared.job.Job.{Job}
 use Rattle.hy_job.specs.declared.job.Stage.{Stage}
 use Rattle.hy_job.specs.Columns.{Row, holds}
-use Rattle.hy_job.specs.Sound.{edges_from}
-use Rattle.hy_job.specs.Stages.{activities_in}
-use Rattle.hy_job.specs.Runs.{Taken, Took, TaskRun, TaskPart, rows_at}
+use Rattle.hy_job.specs.Sound.{SoundJob}
+use Rattle.hy_job.specs.Stages.{AreNext, activities_in}
+use Rattle.hy_job.specs.Runs.{Taken, Took, TaskRun, TaskPart, IsReceiver, IsSender, rows_at}
 
 -- ---- what goes through a mailbox
 
@@ -109,24 +108,6 @@ put_rows = flat_map signal_rows
 abbrev pub given : TaskRecord → List Take → Took
 given r took = record { rows = taken_rows took; scanned = r.scanned; handed = r.handed }
 
--- ---- who receives
-
--- the task of partition `r` receives over the wire from the task of partition `j`
-abbrev pub ReceivesOver : Wire → ℕ → ℕ → ℕ → Type 0
-ReceivesOver W.OneToOne partitions j r = r ≡ j
-ReceivesOver (W.Hash columns) partitions j r = r < partitions
-ReceivesOver W.Broadcast partitions j r = r < partitions
-ReceivesOver W.Gather partitions j r = r ≡ 0
-ReceivesOver (W.Merge keys) partitions j r = r ≡ 0
-
-abbrev pub ReceivesBy : List Edge → ℕ → ℕ → ℕ → Type 0
-ReceivesBy [] partitions j r = ⊥
-ReceivesBy (e ∷ es) partitions j r = ReceivesOver e.wire partitions j r
-
--- partition `r` is a receiver of what the activity's task of partition `j` puts
-abbrev pub IsReceiver : Job → ℕ → ℕ → ℕ → Type 0
-IsReceiver job a j r = ReceivesBy (edges_from job a) job.partitions j r
-
 -- ---- completed and failed tasks
 
 -- where it is a check, its condition is TRUE on all these rows
@@ -151,8 +132,8 @@ abbrev pub HasCause : Kind → Outcome → List Row → Type 0
 HasCause kind (Check name) rows = IsFaulty kind name rows
 HasCause kind _ rows = Unit {0}
 
--- another one did a part of a run, and then told each receiver that it failed
-pub record IsFailed (job : Job) (a : Activity) (j : ℕ) (r : TaskRecord) : Type 0 where
+-- it did a part of a run, and then told each receiver that it failed, where it puts these whole words
+pub record FailsWith (job : Job) (a : Activity) (j : ℕ) (r : TaskRecord) (words : ℕ → List Signal) : Type 0 where
   -- what it took before its failure, and behind it
   pub before : List Take
   pub behind : List Take
@@ -160,9 +141,35 @@ pub record IsFailed (job : Job) (a : Activity) (j : ℕ) (r : TaskRecord) : Type
   pub takes_no_fail : TakesNoFail before
   -- what it put before its failure
   pub put : ℕ → List Signal
-  pub ends : (to : ℕ) → IsReceiver job a.number j to → r.put to ≡ put to ++ Fail ∷ Close ∷ []
+  pub ends : (to : ℕ) → IsReceiver job a.number j to → words to ≡ put to ++ Fail ∷ Close ∷ []
   pub part : TaskPart job a j (has_closed before) (given r before) (record { to = λ to. put_rows (put to); on = r.hands_on })
   pub cause : HasCause a.kind r.outcome (rows_at 0 (taken_rows before))
+
+-- a task that did not complete failed
+abbrev pub IsFailed : Job → Activity → ℕ → TaskRecord → Type 0
+IsFailed job a j r = FailsWith job a j r r.put
+
+-- ---- tasks that have not ended
+
+-- a failed task as far as it has come, which still owes this to each receiver
+abbrev pub IsFailedSoFar : Job → Activity → ℕ → TaskRecord → (ℕ → List Signal) → Type 0
+IsFailedSoFar job a j r owed = FailsWith job a j r (λ to. r.put to ++ owed to)
+
+-- one that has not failed, as far as it has come, which has still to work on these of the rows that it took
+pub record IsLiveSoFar (job : Job) (a : Activity) (j : ℕ) (r : TaskRecord) (left : List Row) : Type 0 where
+  pub takes_no_fail : TakesNoFail r.took
+  pub puts_no_fail : (to : ℕ) → IsReceiver job a.number j to → All (λ s. is_fail s ≡ false) (r.put to)
+  pub worked : List Row
+  pub all : IsPermutation (rows_at 0 (taken_rows r.took)) (worked ++ left)
+  pub passed : IsPassed a.kind worked
+
+-- who owes nothing any more has failed
+abbrev pub FailsAtLast : Type 0
+FailsAtLast = (job : Job) (a : Activity) (j : ℕ) (r : TaskRecord) (owed : ℕ → List Signal) → ((to : ℕ) → IsReceiver job a.number j to → owed to ≡ []) → IsFailedSoFar job a j r owed → IsFailed job a j r
+
+-- who has nothing left to work on passed all that it took
+abbrev pub PassesAtLast : Type 0
+PassesAtLast = (job : Job) (a : Activity) (j : ℕ) (r : TaskRecord) → IsLiveSoFar job a j r [] → IsPassed a.kind (rows_at 0 (taken_rows r.took))
 
 -- ---- the records of a job
 
@@ -203,11 +210,16 @@ pub record IsCaused (job : Job) (stages : List Stage) (records : Records) (a j :
   pub stopped : StopsBy (records a j).outcome (records a j)
   pub saw : (records a j).saw ≡ true → IsRaisedBeside job stages records a
 
+-- what was taken is of the inputs of the activity, and of tasks that send to this one
+abbrev pub TakesFrom : Job → Activity → ℕ → List Take → Type 0
+TakesFrom job a j = AllByRecursion (λ t. IsSender job a j t.input t.sender)
+
 -- the records of the tasks of these stages, which are those of the job that were run, fit together
 pub record Settled (job : Job) (stages : List Stage) (records : Records) : Type 0 where
   pub completed : EachTask job stages (λ a j. (records a.number j).outcome ≡ Completed → IsCompleted job a j (records a.number j))
   pub failed : EachTask job stages (λ a j. (records a.number j).outcome ≢ Completed → IsFailed job a j (records a.number j))
   pub words : EachTask job stages (λ a j. HasWords job a.number j (records a.number j))
+  pub taken : EachTask job stages (λ a j. TakesFrom job a j (records a.number j).took)
   -- what was taken of each sender is what that sender put
   pub delivered : (e : Edge) (s r : ℕ) → Contains job.edges e → Contains (activities_in stages) e.to → s < job.partitions → r < job.partitions
       → taken_of e.input s (records e.to r).took ≡ (records e.from s).put r
@@ -215,3 +227,15 @@ pub record Settled (job : Job) (stages : List Stage) (records : Records) : Type 
   pub handed : (b : Block) (j : ℕ) → Contains job.blocks b → Contains (activities_in stages) b.after → j < job.partitions
       → (records b.after j).handed ≡ (records b.before j).hands_on
   pub causes : EachTask job stages (λ a j. IsCaused job stages records a.number j)
+
+-- ---- failures
+
+-- a task of a stage with this activity faulted
+abbrev pub IsFaultBeside : Job → List Stage → Records → ℕ → Type 0
+IsFaultBeside job stages records a =
+    (s : Stage) × (b j : ℕ) × Contains stages s × Contains s.activities a × Contains s.activities b × (j < job.partitions) × (is_fault (records b j).outcome ≡ true)
+
+-- where a task stopped, another one of its stage faulted
+abbrev pub StopsByFaults : Type 0
+StopsByFaults = (job : Job) (stages : List Stage) (records : Records) → SoundJob job → AreNext job [] stages → Settled job stages records
+    → (a j : ℕ) → Contains (activities_in stages) a → j < job.partitions → (records a j).outcome ≡ Stopped → IsFaultBeside job stages records a

@@ -1,43 +1,90 @@
 ghost use Rattle.std.specs.Prelude.{List};
+ghost use Rattle.hy_job.specs.Boxes.{BoxesAreReached, BoxesHaveOrigins, OriginsAreOneToOne, ReceiversHaveBoxes, TasksAreNumbered};
 ghost use Rattle.hy_job.specs.Cases.{BlockIsNeeded, BuildComesFirst, GroupingIsSound, JoiningHasFourStages, JoiningIsSound, NullHasNoPartner, ReadingIsSound, SortingHasTwoStages, SortingIsSound, StatesAreJoined, StatesHaveFields};
+ghost use Rattle.hy_job.specs.Drivers.{DriversMove, NewDriversGive};
 ghost use Rattle.hy_job.specs.Exchange.{WiresExchange};
+ghost use Rattle.hy_job.specs.RunCases.{CheckPasses, EmitsWhatIsLeft, FailedSoFar, FirstGathers, HashHasTwoBoxes, InputsApart, LastRowOnce, LimitGoesOn, LimitSkips, LiveSoFar, MergeHasTwoBoxes, NoneOfNone, PartIsFront, RaisedInStage, RowEndsPart, ScanIsDealt, StretchesHaveRows, ThirdTask, UnionHasBoth, WordsEnd, WordsMay};
+ghost use Rattle.hy_job.specs.RunLaws.{ProbesMove, RunsFit, RunsHaveValues};
 ghost use Rattle.hy_job.specs.Runs.{FreeOutputs};
-ghost use Rattle.hy_job.specs.SettledCases.{CheckFails, ListingSettles};
-ghost use Rattle.hy_job.specs.Rest.{ContinuesThen, FreeContinues, InOrderContinues, InOrderFinished, NoneIsOpen};
+ghost use Rattle.hy_job.specs.Settled.{FailsAtLast, PassesAtLast, StopsByFaults};
+ghost use Rattle.hy_job.specs.SettledCases.{CheckFails, FailCompletesNone, FailStops, HashSettles, ListingSettles, NobodySends, NoneStopsAlone, SortIsHanded, SortSettles};
+ghost use Rattle.hy_job.specs.Rest.{ContinuesThen, FreeAlive, FreeContinues, FreeFinished, HeldAlive, HeldContinues, HeldFinished, IdleContinues, InOrderAlive, InOrderContinues, InOrderFinished, NoneIsOpen};
 
 /// The present state of a task, or of a part of one, as the laws see it.
 pub trait Resting<F, A> {
     /// What may still be taken.
-    ghost may: { List F → Type 0 };
+    ghost may: { Self → List F → Type 0 };
 
     /// The output for what is taken.
-    ghost out: { List F → List A → Type 0 };
+    ghost out: { Self → List F → List A → Type 0 };
+
+    /// The lists of what was taken for which it stands, where it does not keep them.
+    ghost stands: { Self → List F → Type 0 };
 
     /// What it may still put for what is still to be taken.
-    ghost rest: { List F → List A → Type 0 };
+    ghost rest: { Self → List F → List A → Type 0 };
 }
 
 /// The laws of both forms of what may still be put: what a step has to show of what is owed and
-/// held, how steps are put together, and when nothing is left. It does nothing: its clauses speak
-/// of the states before, between and after two steps.
+/// held, how steps are put together, that a step that changes nothing leaves it, when there is
+/// something to put, and when nothing is left. It does nothing: its clauses speak of the states
+/// before, between and after two steps.
 pub fn rest_laws<F, A, Old: Resting<F, A>, New: Resting<F, A>, Last: Resting<F, A>>()
-    ensures in_order { InOrderContinues Old.may New.may Old.out New.out }
-    ensures free { FreeContinues Old.may New.may Old.out New.out }
-    ensures then_on { ContinuesThen Old.rest New.rest Last.rest }
-    ensures finished { InOrderFinished Last.may Last.out }
+    ensures in_order { (old : Old) (new : New) → InOrderContinues (Old.may old) (New.may new) (Old.out old) (New.out new) }
+    ensures free { (old : Old) (new : New) → FreeContinues (Old.may old) (New.may new) (Old.out old) (New.out new) }
+    ensures for_each { (old : Old) (new : New) → HeldContinues (Old.may old) (New.may new) (Old.stands old) (New.stands new) (Old.out old) (New.out new) }
+    ensures then_on { (old : Old) (new : New) (last : Last) → ContinuesThen (Old.rest old) (New.rest new) (Last.rest last) }
+    ensures idle { (old : Old) → IdleContinues (Old.rest old) }
+    ensures in_order_alive { (old : Old) → InOrderAlive (Old.may old) (Old.out old) }
+    ensures free_alive { (old : Old) → FreeAlive (Old.may old) (Old.out old) }
+    ensures for_each_alive { (old : Old) → HeldAlive (Old.may old) (Old.stands old) (Old.out old) }
+    ensures finished { (last : Last) → InOrderFinished (Last.may last) (Last.out last) }
+    ensures free_finished { (last : Last) → FreeFinished (Last.may last) (Last.out last) }
+    ensures for_each_finished { (last : Last) → HeldFinished (Last.may last) (Last.stands last) (Last.out last) }
     ensures none_open { NoneIsOpen A }
 {}
 
-/// The rows of an activity without an order of its own may come in any order. It does nothing: its
-/// clause speaks of every activity.
+/// The rows of an activity without an order of its own may come in any order, those of a probe
+/// whatever the order of what it was handed; and the rows that a task of a sound job makes have as
+/// many values as its activity says, and are values where those that it takes are. It does nothing:
+/// its clauses speak of every activity.
 pub fn output_laws()
-    ensures { FreeOutputs }
+    ensures free { FreeOutputs }
+    ensures probes { ProbesMove }
+    ensures fit { RunsFit }
+    ensures values { RunsHaveValues }
+{}
+
+/// A new driver gives what its activity makes, and where rows have no order of their own, a
+/// driver's may come in any. It does nothing: its clauses speak of every activity.
+pub fn driver_laws()
+    ensures new { NewDriversGive }
+    ensures moved { DriversMove }
+{}
+
+/// What is known of a task as far as it has come is what its record needs at the end, and where a
+/// task stopped, another one faulted. It does nothing: its clauses speak of all records.
+pub fn record_laws()
+    ensures fails { FailsAtLast }
+    ensures passes { PassesAtLast }
+    ensures stops { StopsByFaults }
 {}
 
 /// What is sent over a wire and taken at its other end is what the wire makes of the rows that go
 /// into it. It does nothing: its clause speaks of every wire.
 pub fn wire_laws()
     ensures { WiresExchange }
+{}
+
+/// The tasks and the mailboxes of a stage are found again by their numbers, and what is taken of a
+/// mailbox comes from one input and one partition. It does nothing: its clauses speak of every
+/// stage of every sound job.
+pub fn mailbox_laws()
+    ensures tasks { TasksAreNumbered }
+    ensures origins { BoxesHaveOrigins }
+    ensures one_to_one { OriginsAreOneToOne }
+    ensures receivers { ReceiversHaveBoxes }
+    ensures reached { BoxesAreReached }
 {}
 
 /// Small jobs that are sound and that are not, the stages of some, what some activities make, and
@@ -56,4 +103,41 @@ pub fn job_cases()
     ensures null_alone { NullHasNoPartner }
     ensures settled { ListingSettles }
     ensures check_fails { CheckFails }
+{}
+
+/// What small activities make, what tasks may put as they go on, and how mailboxes are numbered.
+/// It does nothing: its clauses are worked cases.
+pub fn run_cases()
+    ensures limit_skips { LimitSkips }
+    ensures union_has_both { UnionHasBoth }
+    ensures scan_is_dealt { ScanIsDealt }
+    ensures stretches_have_rows { StretchesHaveRows }
+    ensures none_of_none { NoneOfNone }
+    ensures words_end { WordsEnd }
+    ensures words_may { WordsMay }
+    ensures first_gathers { FirstGathers }
+    ensures raised_in_stage { RaisedInStage }
+    ensures check_passes { CheckPasses }
+    ensures part_is_front { PartIsFront }
+    ensures row_ends_part { RowEndsPart }
+    ensures received { InputsApart }
+    ensures limit_goes_on { LimitGoesOn }
+    ensures emits_what_is_left { EmitsWhatIsLeft }
+    ensures last_row { LastRowOnce }
+    ensures failed_so_far { FailedSoFar }
+    ensures live_so_far { LiveSoFar }
+    ensures hash_boxes { HashHasTwoBoxes }
+    ensures merge_boxes { MergeHasTwoBoxes }
+    ensures third_task { ThirdTask }
+{}
+
+/// Which records of tasks fit together. It does nothing: its clauses are worked cases.
+pub fn record_cases()
+    ensures nobody_sends { NobodySends }
+    ensures none_stops_alone { NoneStopsAlone }
+    ensures fail_stops { FailStops }
+    ensures fail_completes_none { FailCompletesNone }
+    ensures hash_settles { HashSettles }
+    ensures sort_settles { SortSettles }
+    ensures sort_is_handed { SortIsHanded }
 {}

@@ -8,7 +8,10 @@ mod nested;
 mod staging;
 
 pub use job::{Activity, Block, Edge, GroupArg, Job, JoinArg, Kind, Stage, Wire};
-pub use laws::{Resting, job_cases, output_laws, rest_laws, wire_laws};
+pub use laws::{
+    Resting, driver_laws, job_cases, mailbox_laws, output_laws, record_cases, record_laws,
+    rest_laws, run_cases, wire_laws,
+};
 pub use nested::{AggRex, GenRex, NestedPlan};
 pub use staging::stages;
 

@@ -5,6 +5,7 @@ use Rattle.csv.specs.Reading.{Reached, default_config, strip_bom}
 use Rattle.csv.specs.declared.parser.State.TheVariants as st
 use Rattle.csv.proofs.ReadFacts.{rows-end, rows-more}
 use Rattle.al_csv.proofs.Rows.{drop_first, longer, rows_end, rows_next, rows_none, rows_wide, tells_stop}
+use Rattle.al_csv.proofs.ValueRows.{rows_valid}
 use Rattle.al_csv.proofs.Walks.{records_all, records_begin}
 use Rattle.al_csv.proofs.records.load.Goals as goal
 use Rattle.al_csv.proofs.records.load.Goals.{then-number-gt0+in_ok-read_row+in_ok-push, else-number-gt0}
@@ -38,6 +39,11 @@ pub returns-in-Ok-false-clause-wide : goal.returns-in-Ok-false-clause-wide
 returns-in-Ok-false-clause-wide c =
     let (trim, ready, config, seen, left, source, reached, count, rows) = c.loop-number.invariant in
     rows_wide c.args.decl.now.columns 1 (drop 1 seen) c.loop-number.rows rows
+
+pub returns-in-Ok-false-clause-values : goal.returns-in-Ok-false-clause-values
+returns-in-Ok-false-clause-values c =
+    let (trim, ready, config, seen, left, source, reached, count, rows) = c.loop-number.invariant in
+    rows_valid c.args.decl.now.columns 1 (drop 1 seen) c.loop-number.rows rows
 
 pub returns-in_err-read_row-clause-bad : goal.returns-in_err-read_row-clause-bad
 returns-in_err-read_row-clause-bad c =

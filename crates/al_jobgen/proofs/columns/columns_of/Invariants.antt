@@ -1,4 +1,4 @@
-use Rattle.std.proofs.Common.{◌≡◌, map, take}
+use Rattle.std.proofs.Common.{◌≡◌, take}
 use Rattle.al_jobgen.specs.Columns.{columns_of}
 use Rattle.al_jobgen.proofs.columns.columns_of.Given as goal
 

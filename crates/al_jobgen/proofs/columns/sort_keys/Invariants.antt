@@ -1,4 +1,4 @@
-use Rattle.std.proofs.Common.{◌≡◌, map, take}
+use Rattle.std.proofs.Common.{◌≡◌, take}
 use Rattle.al_jobgen.specs.Columns.{sort_keys}
 use Rattle.al_jobgen.proofs.columns.sort_keys.Given as goal
 

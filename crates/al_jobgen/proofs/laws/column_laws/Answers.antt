@@ -10,8 +10,9 @@ use Rattle.al_jobgen.proofs.NestedStates.{joined_row}
 use Rattle.al_jobgen.proofs.NestedDistinct.{pieces_distinct}
 use Rattle.al_jobgen.proofs.ColumnParts.{hashed_rows, interleaves}
 use Rattle.al_jobgen.proofs.ColumnMaps.{assigned_rows, selected_rows, cut_rows, expanded_rows, renamed_rows, checks, joined_wide}
-use Rattle.al_jobgen.proofs.ColumnValid.{eval_valid, items_valid}
-use Rattle.al_jobgen.proofs.NestedValid.{are_taken, have_values, agg_valid}
+use Rattle.hy_job.proofs.ExprValues.{eval_valid, items_valid}
+use Rattle.al_jobgen.proofs.NestedValid.{are_taken, have_values}
+use Rattle.hy_job.proofs.RowValues.{agg_valid}
 use Rattle.al_jobgen.proofs.laws.column_laws.Goals as goal
 
 pub returns-clause-expressions : goal.returns-clause-expressions

@@ -11,13 +11,10 @@ use Rattle.std.proofs.lemmas.Slice.Eq.{starts_is}
 use Rattle.std.proofs.lemmas.List.{map-append}
 use Rattle.std.proofs.lemmas.Str.{IsUtf8-append, IsUtf8-nil, IsUtf8-encode, cons_from_encodes, scalars-chars, encode_ascii}
 use Rattle.std.proofs.lemmas.Str.Ascii.{lowercase_ascii, lowercase_is}
-use Rattle.al_plan.proofs.Bools.{no, by_cases}
+use Rattle.hy_job.proofs.Members.{by_cases}
+use Rattle.hy_job.proofs.Boxes.{both}
 use Rattle.al_func.specs.Items.{pieces, onto_first}
 use Rattle.al_func.proofs.ItemLaws.{pieces-found}
-
-both : (a b : Bool) → (a && b) ≡ true → (a ≡ true) × (b ≡ true)
-both true b e = (refl, e)
-both false b e = absurd (no (sym e))
 
 -- ---- characters
 

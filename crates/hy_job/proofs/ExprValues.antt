@@ -8,7 +8,7 @@ use Rattle.std.specs.List.{AllByRecursion, flat_map, range_with_len}
 use Rattle.std.proofs.lemmas.Int.{ints}
 use Rattle.std.specs.Int.Signed.{mag_rem}
 use Rattle.std.proofs.lemmas.Bool.{leb-true}
-use Rattle.al_phys.proofs.ValueLaws.{and_left}
+use Rattle.hy_job.proofs.Boxes.{both}
 use Rattle.std.proofs.lemmas.List.{length-map}
 use Rattle.std.proofs.lemmas.Str.{IsUtf8-append, encodes-chars, length-le-encodes}
 use Rattle.al_value.specs.Value.{IsValue, eq3}
@@ -27,15 +27,15 @@ use Rattle.al_func.proofs.RexLaws.{eval_rex-Col, eval_rex-Lit, eval_rex-Call}
 use Rattle.hy_job.specs.declared.nested.GenRex.{GenRex}
 use Rattle.hy_job.specs.declared.nested.GenRex.TheVariants as G
 use Rattle.hy_job.specs.Columns.{Row, column, items}
-use Rattle.al_jobgen.specs.Agree.{literals, literals_step, gen_literals}
-use Rattle.al_jobgen.proofs.ColumnLists.{all_halves}
-use Rattle.al_jobgen.proofs.ColumnTexts.{lower_utf8, piece_utf8, pieces_utf8, pieces_short}
+use Rattle.hy_job.specs.Literals.{literals, literals_step, gen_literals}
+use Rattle.hy_job.proofs.RunRows.{all_halves}
+use Rattle.hy_job.proofs.TextValues.{lower_utf8, piece_utf8, pieces_utf8, pieces_short}
 
 -- ---- ints and texts
 
 pub fits_from : (z : ℤ) → is_i64 z ≡ true → FitsSigned w64 z
 fits_from (pos n) e = record { sfits = let low = leb-true n (2 ^ 63 - 1) e in omega (arith, low) }
-fits_from (negsuc n) e = record { sfits = let low = leb-true n (2 ^ 63 - 1) (and_left _ _ e) in omega (arith, low) }
+fits_from (negsuc n) e = record { sfits = let low = leb-true n (2 ^ 63 - 1) (both _ _ e).0 in omega (arith, low) }
 
 chosen_valid : (b : Bool) (v w : Value) → (b ≡ true → IsValue v) → IsValue w → IsValue (if b then v else w)
 chosen_valid true v w h g = h refl
