@@ -202,9 +202,10 @@ fn group_arg(
     ensures values { IfOk result (λ arg. AreValues (group_literals arg.nested)) }
 {
     let vars = phys_live(alloc, input)?;
+    let keys = old_columns(alloc, vars.as_slice(), keys)?;
     let nested = nested_of(alloc, vars.as_slice(), nested)?;
     Ok(GroupArg {
-        keys: old_columns(alloc, vars.as_slice(), keys)?,
+        keys,
         nested: Some(nested),
     })
 }
