@@ -1,10 +1,11 @@
 //! Copies of plans and of their parts.
 
 ghost use Rattle.std.specs.Prelude.{◌≡◌, IfOk};
+ghost use Rattle.al_plan.specs.declared.plan.Plan.TheVariants as P;
 
 use crate::expr::{Expr, Var};
 use crate::plan::{AggCall, Generator, OrderKey, Plan};
-use al_value::{Boxed, List, NoMemory};
+use al_value::{Boxed, List, Name, NoMemory, Text};
 use std::alloc::Global;
 
 pub fn copy_vars(alloc: Global, vars: &[Var]) -> Result<List<Var>, NoMemory>
@@ -94,102 +95,255 @@ fn copy_order(alloc: Global, keys: &[OrderKey]) -> Result<List<OrderKey>, NoMemo
     Ok(copies)
 }
 
-#[cycle(copy_plan)]
-fn copy_boxed(alloc: Global, p: &Boxed<Plan>) -> Result<Boxed<Plan>, NoMemory>
-    ensures { IfOk result (λ c. c ≡ p.now) }
+fn scan_of(alloc: Global, set: &Name, vars: &[Var]) -> Result<Boxed<Plan>, NoMemory>
+    ensures { IfOk result (λ c. c ≡ P.Scan set.now vars.now) }
 {
-    Boxed::new(alloc, copy_plan(alloc, p.get())?)
+    let set = set.copy(alloc)?;
+    let vars = copy_vars(alloc, vars)?;
+    Boxed::new(alloc, Plan::Scan { set, vars })
 }
 
-#[cycle(copy_plan)]
-fn copy_plan(alloc: Global, p: &Plan) -> Result<Plan, NoMemory>
-    ensures { IfOk result (λ c. c ≡ p.now) }
+fn assign_of(
+    alloc: Global,
+    made: &[(Var, Expr)],
+    input: Boxed<Plan>,
+) -> Result<Boxed<Plan>, NoMemory>
+    ensures { IfOk result (λ c. c ≡ P.Assign made.now input) }
 {
-    match p {
-        Plan::Scan { set, vars } => Ok(Plan::Scan {
-            set: set.copy(alloc)?,
-            vars: copy_vars(alloc, vars.as_slice())?,
-        }),
-        Plan::Empty => Ok(Plan::Empty),
-        Plan::Nested => Ok(Plan::Nested),
-        Plan::Assign { made, input } => Ok(Plan::Assign {
-            made: copy_assigned(alloc, made.as_slice())?,
-            input: copy_boxed(alloc, input)?,
-        }),
-        Plan::Select { cond, input } => Ok(Plan::Select {
-            cond: cond.copy(alloc)?,
-            input: copy_boxed(alloc, input)?,
-        }),
-        Plan::Project { vars, input } => Ok(Plan::Project {
-            vars: copy_vars(alloc, vars.as_slice())?,
-            input: copy_boxed(alloc, input)?,
-        }),
-        Plan::Unnest { var, items, input } => Ok(Plan::Unnest {
-            var: var.copy(alloc)?,
-            items: items.copy(alloc)?,
-            input: copy_boxed(alloc, input)?,
-        }),
-        Plan::Subplan { nested, input } => Ok(Plan::Subplan {
-            nested: copy_boxed(alloc, nested)?,
-            input: copy_boxed(alloc, input)?,
-        }),
-        Plan::Join { cond, left, right } => Ok(Plan::Join {
-            cond: cond.copy(alloc)?,
-            left: copy_boxed(alloc, left)?,
-            right: copy_boxed(alloc, right)?,
-        }),
-        Plan::LeftJoin { cond, left, right } => Ok(Plan::LeftJoin {
-            cond: cond.copy(alloc)?,
-            left: copy_boxed(alloc, left)?,
-            right: copy_boxed(alloc, right)?,
-        }),
+    let made = copy_assigned(alloc, made)?;
+    Boxed::new(alloc, Plan::Assign { made, input })
+}
+
+fn select_of(alloc: Global, cond: &Expr, input: Boxed<Plan>) -> Result<Boxed<Plan>, NoMemory>
+    ensures { IfOk result (λ c. c ≡ P.Select cond.now input) }
+{
+    let cond = cond.copy(alloc)?;
+    Boxed::new(alloc, Plan::Select { cond, input })
+}
+
+fn project_of(alloc: Global, vars: &[Var], input: Boxed<Plan>) -> Result<Boxed<Plan>, NoMemory>
+    ensures { IfOk result (λ c. c ≡ P.Project vars.now input) }
+{
+    let vars = copy_vars(alloc, vars)?;
+    Boxed::new(alloc, Plan::Project { vars, input })
+}
+
+fn unnest_of(
+    alloc: Global,
+    var: &Var,
+    items: &Generator,
+    input: Boxed<Plan>,
+) -> Result<Boxed<Plan>, NoMemory>
+    ensures { IfOk result (λ c. c ≡ P.Unnest var.now items.now input) }
+{
+    let var = var.copy(alloc)?;
+    let items = items.copy(alloc)?;
+    Boxed::new(alloc, Plan::Unnest { var, items, input })
+}
+
+fn join_of(
+    alloc: Global,
+    cond: &Expr,
+    left: Boxed<Plan>,
+    right: Boxed<Plan>,
+) -> Result<Boxed<Plan>, NoMemory>
+    ensures { IfOk result (λ c. c ≡ P.Join cond.now left right) }
+{
+    let cond = cond.copy(alloc)?;
+    Boxed::new(alloc, Plan::Join { cond, left, right })
+}
+
+fn left_join_of(
+    alloc: Global,
+    cond: &Expr,
+    left: Boxed<Plan>,
+    right: Boxed<Plan>,
+) -> Result<Boxed<Plan>, NoMemory>
+    ensures { IfOk result (λ c. c ≡ P.LeftJoin cond.now left right) }
+{
+    let cond = cond.copy(alloc)?;
+    Boxed::new(alloc, Plan::LeftJoin { cond, left, right })
+}
+
+fn group_of(
+    alloc: Global,
+    keys: &[(Var, Var)],
+    nested: Boxed<Plan>,
+    input: Boxed<Plan>,
+) -> Result<Boxed<Plan>, NoMemory>
+    ensures { IfOk result (λ c. c ≡ P.Group keys.now nested input) }
+{
+    let keys = copy_keys(alloc, keys)?;
+    Boxed::new(
+        alloc,
         Plan::Group {
             keys,
             nested,
             input,
-        } => Ok(Plan::Group {
-            keys: copy_keys(alloc, keys.as_slice())?,
-            nested: copy_boxed(alloc, nested)?,
-            input: copy_boxed(alloc, input)?,
-        }),
-        Plan::Distinct { input } => Ok(Plan::Distinct {
-            input: copy_boxed(alloc, input)?,
-        }),
+        },
+    )
+}
+
+fn union_of(
+    alloc: Global,
+    made: &[Var],
+    left_vars: &[Var],
+    right_vars: &[Var],
+    left: Boxed<Plan>,
+    right: Boxed<Plan>,
+) -> Result<Boxed<Plan>, NoMemory>
+    ensures { IfOk result (λ c. c ≡ P.Union made.now left_vars.now right_vars.now left right) }
+{
+    let made = copy_vars(alloc, made)?;
+    let left_vars = copy_vars(alloc, left_vars)?;
+    let right_vars = copy_vars(alloc, right_vars)?;
+    Boxed::new(
+        alloc,
         Plan::Union {
             made,
             left_vars,
             right_vars,
             left,
             right,
-        } => Ok(Plan::Union {
-            made: copy_vars(alloc, made.as_slice())?,
-            left_vars: copy_vars(alloc, left_vars.as_slice())?,
-            right_vars: copy_vars(alloc, right_vars.as_slice())?,
-            left: copy_boxed(alloc, left)?,
-            right: copy_boxed(alloc, right)?,
-        }),
-        Plan::Aggregate { made, input } => Ok(Plan::Aggregate {
-            made: copy_aggregated(alloc, made.as_slice())?,
-            input: copy_boxed(alloc, input)?,
-        }),
-        Plan::Order { keys, input } => Ok(Plan::Order {
-            keys: copy_order(alloc, keys.as_slice())?,
-            input: copy_boxed(alloc, input)?,
-        }),
-        Plan::Limit { n, k, input } => Ok(Plan::Limit {
-            n: *n,
-            k: *k,
-            input: copy_boxed(alloc, input)?,
-        }),
-        Plan::Check { name, cond, input } => Ok(Plan::Check {
-            name: name.copy(alloc)?,
-            cond: cond.copy(alloc)?,
-            input: copy_boxed(alloc, input)?,
-        }),
-        Plan::Result { vars, input } => Ok(Plan::Result {
-            vars: copy_vars(alloc, vars.as_slice())?,
-            input: copy_boxed(alloc, input)?,
-        }),
+        },
+    )
+}
+
+fn aggregate_of(
+    alloc: Global,
+    made: &[(Var, AggCall)],
+    input: Boxed<Plan>,
+) -> Result<Boxed<Plan>, NoMemory>
+    ensures { IfOk result (λ c. c ≡ P.Aggregate made.now input) }
+{
+    let made = copy_aggregated(alloc, made)?;
+    Boxed::new(alloc, Plan::Aggregate { made, input })
+}
+
+fn order_of(alloc: Global, keys: &[OrderKey], input: Boxed<Plan>) -> Result<Boxed<Plan>, NoMemory>
+    ensures { IfOk result (λ c. c ≡ P.Order keys.now input) }
+{
+    let keys = copy_order(alloc, keys)?;
+    Boxed::new(alloc, Plan::Order { keys, input })
+}
+
+fn check_of(
+    alloc: Global,
+    name: &Text,
+    cond: &Expr,
+    input: Boxed<Plan>,
+) -> Result<Boxed<Plan>, NoMemory>
+    ensures { IfOk result (λ c. c ≡ P.Check name.now cond.now input) }
+{
+    let name = name.copy(alloc)?;
+    let cond = cond.copy(alloc)?;
+    Boxed::new(alloc, Plan::Check { name, cond, input })
+}
+
+fn result_of(alloc: Global, vars: &[Var], input: Boxed<Plan>) -> Result<Boxed<Plan>, NoMemory>
+    ensures { IfOk result (λ c. c ≡ P.Result vars.now input) }
+{
+    let vars = copy_vars(alloc, vars)?;
+    Boxed::new(alloc, Plan::Result { vars, input })
+}
+
+/// In a box, since a plan that an error drops is proved variant by variant.
+fn copy_plan(alloc: Global, p: &Plan) -> Result<Boxed<Plan>, NoMemory>
+    ensures { IfOk result (λ c. c ≡ p.now) }
+{
+    match p {
+        Plan::Scan { set, vars } => scan_of(alloc, set, vars.as_slice()),
+        Plan::Empty => Boxed::new(alloc, Plan::Empty),
+        Plan::Nested => Boxed::new(alloc, Plan::Nested),
+        Plan::Assign { made, input } => {
+            let input = copy_plan(alloc, input.get())?;
+            assign_of(alloc, made.as_slice(), input)
+        }
+        Plan::Select { cond, input } => {
+            let input = copy_plan(alloc, input.get())?;
+            select_of(alloc, cond, input)
+        }
+        Plan::Project { vars, input } => {
+            let input = copy_plan(alloc, input.get())?;
+            project_of(alloc, vars.as_slice(), input)
+        }
+        Plan::Unnest { var, items, input } => {
+            let input = copy_plan(alloc, input.get())?;
+            unnest_of(alloc, var, items, input)
+        }
+        Plan::Subplan { nested, input } => {
+            let nested = copy_plan(alloc, nested.get())?;
+            let input = copy_plan(alloc, input.get())?;
+            Boxed::new(alloc, Plan::Subplan { nested, input })
+        }
+        Plan::Join { cond, left, right } => {
+            let left = copy_plan(alloc, left.get())?;
+            let right = copy_plan(alloc, right.get())?;
+            join_of(alloc, cond, left, right)
+        }
+        Plan::LeftJoin { cond, left, right } => {
+            let left = copy_plan(alloc, left.get())?;
+            let right = copy_plan(alloc, right.get())?;
+            left_join_of(alloc, cond, left, right)
+        }
+        Plan::Group {
+            keys,
+            nested,
+            input,
+        } => {
+            let nested = copy_plan(alloc, nested.get())?;
+            let input = copy_plan(alloc, input.get())?;
+            group_of(alloc, keys.as_slice(), nested, input)
+        }
+        Plan::Distinct { input } => {
+            let input = copy_plan(alloc, input.get())?;
+            Boxed::new(alloc, Plan::Distinct { input })
+        }
+        Plan::Union {
+            made,
+            left_vars,
+            right_vars,
+            left,
+            right,
+        } => {
+            let left = copy_plan(alloc, left.get())?;
+            let right = copy_plan(alloc, right.get())?;
+            union_of(
+                alloc,
+                made.as_slice(),
+                left_vars.as_slice(),
+                right_vars.as_slice(),
+                left,
+                right,
+            )
+        }
+        Plan::Aggregate { made, input } => {
+            let input = copy_plan(alloc, input.get())?;
+            aggregate_of(alloc, made.as_slice(), input)
+        }
+        Plan::Order { keys, input } => {
+            let input = copy_plan(alloc, input.get())?;
+            order_of(alloc, keys.as_slice(), input)
+        }
+        Plan::Limit { n, k, input } => {
+            let input = copy_plan(alloc, input.get())?;
+            Boxed::new(
+                alloc,
+                Plan::Limit {
+                    n: *n,
+                    k: *k,
+                    input,
+                },
+            )
+        }
+        Plan::Check { name, cond, input } => {
+            let input = copy_plan(alloc, input.get())?;
+            check_of(alloc, name, cond, input)
+        }
+        Plan::Result { vars, input } => {
+            let input = copy_plan(alloc, input.get())?;
+            result_of(alloc, vars.as_slice(), input)
+        }
     }
 }
 
@@ -197,6 +351,9 @@ impl Plan {
     pub fn copy(&self, alloc: Global) -> Result<Plan, NoMemory>
         ensures { IfOk result (λ p. p ≡ self.now) }
     {
-        copy_plan(alloc, self)
+        match copy_plan(alloc, self) {
+            Ok(p) => Ok(p.into_inner()),
+            Err(fault) => Err(fault),
+        }
     }
 }

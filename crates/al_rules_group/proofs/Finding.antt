@@ -15,9 +15,6 @@ use Rattle.al_rules_group.specs.GroupRules.{has_distinct, DistinctOverDistinct, 
 use Rattle.al_rules_group.specs.Shapes.{IsDistinct, IsGroup, IsAggregate, IsAggregateOf, IsProjectOf, IsGroupOf}
 use Rattle.al_rules_group.specs.Outcomes.{IsOther, Rewritten, outcome}
 
-none_some : {X : Type 0} (x : X) → None ≡ Some x → ⊥
-none_some x e = cc
-
 some_same : {X : Type 0} (x y : X) → Some x ≡ Some y → x ≡ y
 some_same x y e = cc
 
@@ -36,11 +33,6 @@ pub refined : (R : Rewriting) → ((x y : Plan) → Fit x → R x y → Replaces
 refined R sound p (Ok (Some q)) h answer e m fit = subst (λ (a : Result Plan ApplyFault). IfOk a (λ q. Replaces q p)) (sym e) (sound p q fit h)
 refined R sound p (Ok None) h answer e m fit = absurd (h m)
 refined R sound p (Err x) h answer e m fit = subst (λ (a : Result Plan ApplyFault). IfOk a (λ q. Replaces q p)) (sym e) tt
-
-pub applied : (R : Rewriting) (p : Plan) (made : Result (Option Plan) NoMemory) → IfOk made (Rewritten R p) → (answer : Result Plan ApplyFault) → answer ≡ outcome p made → Matches R p → IfOk answer (λ q. R p q)
-applied R p (Ok (Some q)) h answer e m = subst (λ (a : Result Plan ApplyFault). IfOk a (λ q. R p q)) (sym e) h
-applied R p (Ok None) h answer e m = absurd (h m)
-applied R p (Err x) h answer e m = subst (λ (a : Result Plan ApplyFault). IfOk a (λ q. R p q)) (sym e) tt
 
 -- what is put into a copy is put into the plan
 pub put_into : (p copy x made q : Plan) (i : ℕ) → copy ≡ p → made ≡ x → ((y : Plan) → input copy i ≡ Some y → q ≡ with_input copy i made) → (y : Plan) → input p i ≡ Some y → q ≡ with_input p i x

@@ -186,11 +186,6 @@ refines R sound p (Ok (Some q)) h m fit = sound p q fit h
 refines R sound p (Ok None) h m fit = absurd (h m)
 refines R sound p (Err e) h m fit = tt
 
-pub hands_back : (p : Plan) (made : Result (Option Plan) NoMemory) → HandsBack p (outcome p made)
-hands_back p (Ok (Some q)) = tt
-hands_back p (Ok None) = tt
-hands_back p (Err e) = refl
-
 -- what is told of nothing
 pub none_of : {T : Type 0} (o : Option T) (X : Type 0) (Y : T → Type 0) → o ≡ None → MatchOption o X Y → X
 none_of o X Y e h = subst (λ (z : Option _). MatchOption z X Y) e h

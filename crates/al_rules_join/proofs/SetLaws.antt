@@ -10,10 +10,3 @@ last_name (suc zero) a b c d = absurd (b refl)
 last_name (suc (suc zero)) a b c d = absurd (c refl)
 last_name (suc (suc (suc zero))) a b c d = absurd (d refl)
 last_name (suc (suc (suc (suc k)))) a b c d = refl
-
-pub last_rewrites : (k : ℕ) → k ≢ 0 → k ≢ 1 → k ≢ 2 → k ≢ 3 → join_rewrites k ≡ left_join_cond_right
-last_rewrites zero a b c d = absurd (a refl)
-last_rewrites (suc zero) a b c d = absurd (b refl)
-last_rewrites (suc (suc zero)) a b c d = absurd (c refl)
-last_rewrites (suc (suc (suc zero))) a b c d = absurd (d refl)
-last_rewrites (suc (suc (suc (suc k)))) a b c d = refl

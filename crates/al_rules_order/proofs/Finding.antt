@@ -36,11 +36,6 @@ refined R sound p (Ok (Some q)) h answer e m fit = subst (λ (a : Result Plan Ap
 refined R sound p (Ok None) h answer e m fit = absurd (h m)
 refined R sound p (Err x) h answer e m fit = subst (λ (a : Result Plan ApplyFault). IfOk a (λ q. Replaces q p)) (sym e) tt
 
-pub applied : (R : Rewriting) (p : Plan) (made : Result (Option Plan) NoMemory) → IfOk made (Rewritten R p) → (answer : Result Plan ApplyFault) → answer ≡ outcome p made → Matches R p → IfOk answer (λ q. R p q)
-applied R p (Ok (Some q)) h answer e m = subst (λ (a : Result Plan ApplyFault). IfOk a (λ q. R p q)) (sym e) h
-applied R p (Ok None) h answer e m = absurd (h m)
-applied R p (Err x) h answer e m = subst (λ (a : Result Plan ApplyFault). IfOk a (λ q. R p q)) (sym e) tt
-
 -- what is put into a copy is put into the plan
 pub put_into : (p copy x made q : Plan) (i : ℕ) → copy ≡ p → made ≡ x → ((y : Plan) → input copy i ≡ Some y → q ≡ with_input copy i made) → (y : Plan) → input p i ≡ Some y → q ≡ with_input p i x
 put_into p copy x made q i same is h y e = h y (ap (λ z. input z i) same ∙ e) ∙ (λ j. with_input (same j) i (is j))
@@ -131,12 +126,6 @@ too_many p y x n k m j at below high (q, (ns, ks, ms, js, z, is, low, to)) =
     let outer = limit_parts n k ns ks y (P.Limit ms js z) (sym at ∙ is) in
     let inner = limit_parts m j ms js x z (sym below ∙ outer.2) in
     not_both (nat_le (k + j) most) high (le-leb (k + j) most (omega (arith, low, outer.1, inner.1)))
-
-pub joined_limits : (p y x : Plan) (n k m j s t : ℕ) → p ≡ P.Limit n k y → y ≡ P.Limit m j x → nat_le (k + j) most ≡ true → s ≡ min n (m - k) → t ≡ k + j → LimitOverLimit p (P.Limit s t x)
-joined_limits p y x n k m j s t at below low is_s is_t =
-    (n, k, m, j, x, at ∙ ap (P.Limit n k) below, leb-true (k + j) most low, (λ i. P.Limit (is_s i) (is_t i) x))
-
--- ---- a limit below an operator
 
 pub limit_of_no_project : (p : Plan) → ((n k : ℕ) (x : Plan) → p ≡ P.Limit n k x → ⊥) → IsOther LimitBelowProject p
 limit_of_no_project p none (q, (n, k, vars, x, at, to)) = none n k (P.Project vars x) at

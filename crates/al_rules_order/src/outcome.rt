@@ -11,7 +11,11 @@ pub fn outcome(p: Plan, made: Result<Option<Plan>, NoMemory>) -> Result<Plan, Ap
     ensures { result ≡ meaning.outcome p made }
 {
     match made {
-        Ok(Some(q)) => Ok(q),
+        Ok(Some(q)) => {
+            // A call, since what drops in place is proved variant by variant.
+            drop(p);
+            Ok(q)
+        }
         Ok(None) => Ok(p),
         Err(_) => Err(ApplyFault::NoMemory(p)),
     }
