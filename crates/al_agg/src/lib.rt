@@ -9,6 +9,3 @@ mod state;
 
 pub use agg::Agg;
 pub use part::{Part, PartFault, add, finish, get_part, join, put_part, start, width};
-
-#[cfg(test)]
-mod tests;

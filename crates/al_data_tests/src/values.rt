@@ -1,4 +1,4 @@
-use crate::{
+use al_value::{
     Boxed, FieldFault, List, Name, Row, Text, TextFault, Value, cmp_fields, cmp_values, copy_rows,
     eq3, get_field, hash_add, hash_start, put_field,
 };

@@ -1,5 +1,5 @@
-use crate::{Command, WordsFault, read_words};
 use al_value::Settings;
+use al_words::{Command, WordsFault, read_words};
 use std::alloc::Global;
 use std::test::Fail;
 

@@ -1,7 +1,7 @@
 ghost use Rattle.std.specs.Prelude.{◌≡◌, IfOk};
 ghost use Rattle.al_agg.specs.Part as spec;
 
-use crate::{Agg, Part, PartFault, add, finish, get_part, join, put_part, start, width};
+use al_agg::{Agg, Part, PartFault, add, finish, get_part, join, put_part, start, width};
 use al_value::{Row, Text, Value};
 use std::alloc::Global;
 use std::test::Fail;

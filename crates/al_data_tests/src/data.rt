@@ -1,4 +1,4 @@
-use crate::{BadRecord, Column, DataKind, Decl, Kind, LoadRefused, generate, load, out_text};
+use al_csv::{BadRecord, Column, DataKind, Decl, Kind, LoadRefused, generate, load, out_text};
 use al_value::{List, Name, Row, Text, Value};
 use std::alloc::Global;
 use std::test::Fail;

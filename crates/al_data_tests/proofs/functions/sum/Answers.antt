@@ -6,7 +6,7 @@ use Rattle.al_func.specs.declared.rex.Rex.{Rex}
 use Rattle.al_func.specs.declared.rex.Rex.TheVariants as R
 use Rattle.al_func.specs.Rex.{IsSound}
 use Rattle.al_func.proofs.RexLaws.{is_sound-Call, is_sound-Col, is_sound-Lit}
-use Rattle.al_func.proofs.tests.sum.Goals as goal
+use Rattle.al_data_tests.proofs.functions.sum.Goals as goal
 
 sum_sound : (xs : List Rex) → xs ≡ R.Col 1 ∷ R.Lit (V.Int (pos 5)) ∷ [] → IsSound 2 (R.Call F.Add xs)
 sum_sound xs e = rw e (simp (is_sound-Call, is_sound-Col, is_sound-Lit))

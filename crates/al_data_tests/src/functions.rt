@@ -2,7 +2,7 @@ ghost use Rattle.std.specs.Prelude.{◌≡◌, IfOk};
 ghost use Rattle.al_func.specs.Func as spec;
 ghost use Rattle.al_func.specs.Rex as rex;
 
-use crate::{Func, Rex, apply, arity, eval_rex, range_items, split_items};
+use al_func::{Func, Rex, apply, arity, eval_rex, range_items, split_items};
 use al_value::{List, Text, Value};
 use std::alloc::Global;
 use std::test::Fail;

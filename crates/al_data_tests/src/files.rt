@@ -1,4 +1,4 @@
-use crate::{
+use al_io::{
     FileRead, FolderSource, MemSink, MemSource, ReadFault, Sink, Source, StreamSink, read_file,
     read_whole, write_pieces, write_whole,
 };
