@@ -13,6 +13,3 @@ mod vars;
 
 pub use job::job_of;
 pub use laws::column_laws;
-
-#[cfg(test)]
-mod tests;

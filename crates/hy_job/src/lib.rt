@@ -11,6 +11,3 @@ pub use job::{Activity, Block, Edge, GroupArg, Job, JoinArg, Kind, Stage, Wire};
 pub use laws::{Resting, job_cases, output_laws, rest_laws, wire_laws};
 pub use nested::{AggRex, GenRex, NestedPlan};
 pub use staging::stages;
-
-#[cfg(test)]
-mod tests;

@@ -1,8 +1,8 @@
-use crate::{
+use al_func::Func;
+use al_phys::{
     JoinForm, Local, Need, Partitioning, Phys, delivered, meets, phys_laws, phys_live,
     placed_cases, required,
 };
-use al_func::Func;
 use al_plan::{Expr, Var};
 use al_value::{Boxed, List, Name, NoMemory};
 use std::alloc::Global;
