@@ -11,6 +11,3 @@ mod state;
 pub use agg::Agg;
 pub use laws::state_laws;
 pub use part::{Part, PartFault, add, finish, get_part, join, put_part, start, width};
-
-#[cfg(test)]
-mod tests;

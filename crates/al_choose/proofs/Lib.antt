@@ -19,4 +19,3 @@ pub mod PlacedKeys
 pub mod PlacedInputs
 pub mod PlacedLaws
 pub mod PlacedAlone
-pub mod PlacedTests

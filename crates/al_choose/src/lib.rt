@@ -13,6 +13,3 @@ mod over;
 mod size;
 
 pub use choice::choose;
-
-#[cfg(test)]
-mod tests;

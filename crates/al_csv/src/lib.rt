@@ -14,6 +14,3 @@ pub use generator::generate;
 pub use records::load;
 pub use refused::{BadRecord, DataKind, LoadRefused};
 pub use text::out_text;
-
-#[cfg(test)]
-mod tests;

@@ -13,6 +13,3 @@ pub use call::apply;
 pub use func::{Func, arity};
 pub use items::{range_items, split_items};
 pub use rex::{Rex, eval_rex};
-
-#[cfg(test)]
-mod tests;

@@ -10,6 +10,3 @@ pub use mem::{MemFile, MemSink, MemSource};
 pub use real::{FolderSource, StreamSink};
 pub use sink::{Sink, write_pieces, write_whole};
 pub use source::{FileRead, ReadFault, Source, Whole, read_file, read_whole};
-
-#[cfg(test)]
-mod tests;

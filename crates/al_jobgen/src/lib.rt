@@ -12,6 +12,3 @@ mod operators;
 
 pub use job::job_of;
 pub use laws::{column_laws, literal_cases};
-
-#[cfg(test)]
-mod tests;

@@ -19,6 +19,3 @@ pub use meeting::meets;
 pub use needs::required;
 pub use phys::{JoinForm, Phys};
 pub use property::{Local, Need, Partitioning};
-
-#[cfg(test)]
-mod tests;

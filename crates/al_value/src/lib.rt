@@ -23,6 +23,3 @@ pub use row::{Row, copy_rows};
 pub use settings::{Settings, SortKey};
 pub use text::{MAX_TEXT, Text, TextFault};
 pub use value::{Value, cmp_values, eq3};
-
-#[cfg(test)]
-mod tests;

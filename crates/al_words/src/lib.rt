@@ -11,6 +11,3 @@ mod words;
 pub use command::{Command, one_command, read_words};
 pub use schedule::Schedule;
 pub use words::WordsFault;
-
-#[cfg(test)]
-mod tests;

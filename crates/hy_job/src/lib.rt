@@ -14,6 +14,3 @@ pub use laws::{
 };
 pub use nested::{AggRex, GenRex, NestedPlan};
 pub use staging::stages;
-
-#[cfg(test)]
-mod tests;
