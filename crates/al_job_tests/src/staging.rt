@@ -1,10 +1,13 @@
 //! The stages of jobs, and the laws of jobs.
 
-ghost use Rattle.std.specs.Prelude.{◌≡◌};
+ghost use Rattle.std.specs.Prelude.{◌≡◌, []};
 
 use crate::texts::job;
 use al_value::List;
-use hy_job::{Resting, Stage, job_cases, output_laws, rest_laws, stages, wire_laws};
+use hy_job::{
+    Resting, Stage, driver_laws, job_cases, mailbox_laws, output_laws, record_cases, record_laws,
+    rest_laws, run_cases, stages, wire_laws,
+};
 use std::alloc::Global;
 use std::test::Fail;
 
@@ -55,17 +58,24 @@ fn jobs_have_stages(rt: HostRuntime) -> Result<(), Fail> {
 struct Passing;
 
 impl Resting<u32, u32> for Passing {
-    ghost may = { λ took. Unit {0} };
+    ghost may = { λ _ took. Unit {0} };
 
-    ghost out = { λ took put. put ≡ took };
+    ghost out = { λ _ took put. put ≡ took };
 
-    ghost rest = { λ took put. put ≡ took };
+    ghost stands = { λ _ held. held ≡ [] };
+
+    ghost rest = { λ _ took put. put ≡ took };
 }
 
 #[test]
 fn laws_are_called() {
     rest_laws::<u32, u32, Passing, Passing, Passing>();
     output_laws();
+    driver_laws();
+    record_laws();
     wire_laws();
+    mailbox_laws();
     job_cases();
+    run_cases();
+    record_cases();
 }
