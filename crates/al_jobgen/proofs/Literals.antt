@@ -1,5 +1,5 @@
 -- Literals of expressions that are made one after the other.
-use Rattle.std.proofs.Common.{◌≡◌, List, [], ◌∷◌, ◌++◌, flat_map, map, ap, sym, subst, ◌∙◌, refl, append-nil}
+use Rattle.std.proofs.Common.{◌≡◌, List, [], ◌∷◌, ◌++◌, flat_map, map, ap, sym, subst, ◌∙◌, refl}
 use Rattle.std.specs.Prelude.{ℕ, Result, Ok, Err, OnOk}
 use Rattle.al_value.specs.declared.value.Value.{Value}
 use Rattle.al_value.specs.Value.{IsValue}
@@ -8,14 +8,9 @@ use Rattle.al_func.specs.declared.rex.Rex.{Rex, fold-roll-Rex}
 use Rattle.al_func.specs.declared.rex.Rex.TheVariants as R
 use Rattle.al_func.specs.declared.rex.Rex.TheOpen as L
 use Rattle.al_phys.proofs.FlowLaws.{all_both}
-use Rattle.al_jobgen.specs.declared.builder.Builder.{Builder}
 use Rattle.hy_job.specs.declared.job.Activity.{Activity}
-use Rattle.hy_job.specs.declared.job.Edge.{Edge}
-use Rattle.hy_job.specs.declared.job.Block.{Block}
-use Rattle.al_jobgen.specs.Added.{Added}
-use Rattle.hy_job.specs.Literals.{literals, literals_step}
+use Rattle.hy_job.specs.Literals.{literals, literals_step, kind_literals}
 use Rattle.hy_job.specs.Columns.{AreValues}
-use Rattle.hy_job.specs.Literals.{kind_literals}
 use Rattle.al_jobgen.specs.Literals.{HaveValueLiterals}
 
 flat_same : (args : List Rex) → flat_map (λ a. a) (map literals args) ≡ flat_map literals args
@@ -61,10 +56,6 @@ more_values f (y ∷ xs) x h k =
 -- one more activity
 pub more_activities : (xs : List Activity) (a : Activity) → HaveValueLiterals xs → AreValues (kind_literals a.kind) → HaveValueLiterals (xs ++ a ∷ [])
 more_activities xs a h k = all_both (λ b. AreValues (kind_literals b.kind)) xs (a ∷ []) h (k, tt)
-
--- no activity
-pub same_activities : (a b : Builder) (es : List Edge) (bs : List Block) → Added a b [] es bs → HaveValueLiterals a.activities → HaveValueLiterals b.activities
-same_activities a b es bs added h = subst HaveValueLiterals (sym (added.activities ∙ append-nil a.activities)) h
 
 pub on_ok : {T E P Q : Type 0} (r : Result T E) → (P → Q) → OnOk r P → OnOk r Q
 on_ok (Ok t) f h = f h

@@ -1,5 +1,5 @@
 -- What is added to the lists of a job in several steps.
-use Rattle.std.proofs.Common.{◌≡◌, ◌≢◌, ◌≤◌, ℕ, zero, suc, ◌<◌, ◌+◌, ◌-◌, List, [], ◌∷◌, ◌++◌, length, map, refl, ap, sym, subst, ◌∙◌, arith, length-append, append_assoc, append-nil}
+use Rattle.std.proofs.Common.{◌≡◌, ℕ, suc, ◌+◌, ◌-◌, List, [], ◌∷◌, ◌++◌, length, map, refl, ap, sym, subst, ◌∙◌, arith, length-append, append_assoc, append-nil}
 use Rattle.std.specs.List.{enumerate_from}
 use Rattle.std.proofs.lemmas.List.{map-append}
 use Rattle.hy_job.specs.declared.job.Activity.{Activity}
@@ -12,7 +12,7 @@ use Rattle.al_jobgen.specs.declared.builder.Tail.{Tail}
 use Rattle.al_jobgen.specs.JobOf.{Step, Piece, activity, piece_of, wire_step, last_of, block_at, edge_from, union_piece, job_of}
 use Rattle.hy_job.specs.declared.job.Job.{Job}
 use Rattle.al_jobgen.specs.Shapes.{Form, Source, Over, Both, form, form_piece, over_piece, both_piece}
-use Rattle.al_jobgen.specs.Added.{own_of, activities_from, Added, EndsAt, AddedSource, AddedOver, AddedBoth, AddedPlan, over_edges, both_edges, own_blocks, edge_of}
+use Rattle.al_jobgen.specs.Added.{own_of, activities_from, Added, EndsAt, AddedSource, AddedOver, AddedBoth, AddedPlan, over_edges, own_blocks, edge_of}
 use Rattle.al_jobgen.proofs.PieceForms.{piece_form}
 
 pub enumerate-append : {X : Type 0} (n : ℕ) (xs ys : List X) → enumerate_from n (xs ++ ys) ≡ enumerate_from n xs ++ enumerate_from (n + length xs) ys
@@ -44,56 +44,7 @@ then_added a b c xs ys es fs bs cs h k =
       blocks = k.blocks ∙ ap (λ zs. zs ++ cs) h.blocks ∙ append_assoc a.blocks bs cs;
     }
 
-pub same_added : (a : Builder) → Added a a [] [] []
-same_added a = record { activities = sym (append-nil a.activities); edges = sym (append-nil a.edges); blocks = sym (append-nil a.blocks) }
-
 -- ---- an operator's own parts
-
--- two edges, the second into the activity with this number
-pub two_edges : (a b c : Builder) (s t : Tail) (j x y to : ℕ) → length a.activities + j ≡ to → Added a b [] (edge_of s (length a.activities) x ∷ []) [] → Added b c [] (edge_of t (length b.activities + j) y ∷ []) []
-    → Added a c [] (edge_of s (length a.activities) x ∷ edge_of t to y ∷ []) []
-two_edges a b c s t j x y to e h k =
-    let same : length b.activities ≡ length a.activities + 0 = added_length a b [] (edge_of s (length a.activities) x ∷ []) [] h in
-    let second : length b.activities + j ≡ to = omega (arith, same, e) in
-    let r = then_added a b c [] [] (edge_of s (length a.activities) x ∷ []) (edge_of t (length b.activities + j) y ∷ []) [] [] h k in
-    record {
-      activities = r.activities;
-      edges = r.edges ∙ ap (λ n. a.edges ++ (edge_of s (length a.activities) x ∷ edge_of t n y ∷ [])) second;
-      blocks = r.blocks;
-    }
-
-few : (n : ℕ) (s t : Tail) (to : ℕ) → n < 2 → edge_of s to 0 ∷ edge_of t to 1 ∷ [] ≡ both_edges s t to n
-few zero s t to h = refl
-few (suc zero) s t to h = refl
-few (suc (suc n)) s t to h = absurd (omega (arith, h))
-
-many : (n : ℕ) (s t : Tail) (to : ℕ) → 2 ≤ n → edge_of t to 0 ∷ edge_of s (suc to) 0 ∷ [] ≡ both_edges s t to n
-many zero s t to h = absurd (omega (arith, h))
-many (suc zero) s t to h = absurd (omega (arith, h))
-many (suc (suc n)) s t to h = refl
-
-pub few_edges : (a b c : Builder) (s t : Tail) (n : ℕ) → n < 2 → Added a b [] (edge_of s (length a.activities) 0 ∷ []) [] → Added b c [] (edge_of t (length b.activities) 1 ∷ []) [] → Added a c [] (both_edges s t (length a.activities) n) []
-few_edges a b c s t n lt h k =
-    subst (λ es. Added a c [] es []) (few n s t (length a.activities) lt)
-    (two_edges a b c s t 0 0 1 (length a.activities) (omega arith) h (subst (λ m. Added b c [] (edge_of t m 1 ∷ []) []) (omega arith) k))
-
-pub many_edges : (a b c : Builder) (s t : Tail) (n : ℕ) → 2 ≤ n → Added a b [] (edge_of t (length a.activities) 0 ∷ []) [] → Added b c [] (edge_of s (length b.activities + 1) 0 ∷ []) [] → Added a c [] (both_edges s t (length a.activities) n) []
-many_edges a b c s t n le h k =
-    subst (λ es. Added a c [] es []) (many n s t (length a.activities) le) (two_edges a b c t s 1 0 0 (suc (length a.activities)) (omega arith) h k)
-
-pub no_block : (a : Builder) (n : ℕ) → n < 2 → Added a a [] [] (own_blocks (length a.activities) n)
-no_block a zero h = same_added a
-no_block a (suc zero) h = same_added a
-no_block a (suc (suc n)) h = absurd (omega (arith, h))
-
-pub one_block : (a b : Builder) (n : ℕ) → 2 ≤ n → Added a b [] [] (block_at (length a.activities)) → Added a b [] [] (own_blocks (length a.activities) n)
-one_block a b zero h k = absurd (omega (arith, h))
-one_block a b (suc zero) h k = absurd (omega (arith, h))
-one_block a b (suc (suc n)) h k = k
-
-pub one_edge : (a b : Builder) (t : Tail) (n : ℕ) → n ≢ 0 → Added a b [] (edge_of t (length a.activities) 0 ∷ []) [] → Added a b [] (over_edges t (length a.activities) n) []
-one_edge a b t zero h k = absurd (h refl)
-one_edge a b t (suc n) h k = k
 
 -- edges, then blocks, then activities
 pub all_added : (a b c d : Builder) (own : List Step) (es : List Edge) (f : ℕ → List Block) → Added a b [] es [] → Added b c [] [] (f (length b.activities)) → Added c d own [] [] → Added a d own es (f (length a.activities))
@@ -250,8 +201,3 @@ pub over_all : (a b c d : Builder) (s t : Tail) (own : List Step) (n : ℕ) (wir
     → AddedOver a d s own wire t
 over_all a b c d s t own n wire e h k m ends =
     record { added = subst (λ l. Added a d own (over_edges s (length a.activities) l) (own_blocks (length a.activities) l)) e (all_added a b c d own (over_edges s (length a.activities) n) (λ at. own_blocks at n) h k m); ends = ends }
-
-pub both_all : (a b c d : Builder) (s u t : Tail) (own : List Step) (n : ℕ) (wire : Wire) → n ≡ length own → Added a b [] (both_edges s u (length a.activities) n) [] → Added b c [] [] (own_blocks (length b.activities) n) → Added c d own [] [] → EndsAt d wire t
-    → AddedBoth a d s u own wire t
-both_all a b c d s u t own n wire e h k m ends =
-    record { added = subst (λ l. Added a d own (both_edges s u (length a.activities) l) (own_blocks (length a.activities) l)) e (all_added a b c d own (both_edges s u (length a.activities) n) (λ at. own_blocks at n) h k m); ends = ends }

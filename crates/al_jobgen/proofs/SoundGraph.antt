@@ -52,9 +52,6 @@ module _ (lo hi a : ℕ) (es : List Edge) (h : AllByRecursion (EdgeIn lo hi) es)
   pub into_above : hi ≤ a → into es a ≡ []
   into_above le = none_by (λ (e : Edge). nat_eq e.to a) (EdgeIn lo hi) (λ e k. below_ne e.to a (omega (arith, k.2, le))) es h
 
-  pub into_below : a < lo → into es a ≡ []
-  into_below lt = none_by (λ (e : Edge). nat_eq e.to a) (EdgeIn lo hi) (λ e k. above_ne e.to a (omega (arith, k.0, k.1, lt))) es h
-
   pub out_above : hi ≤ suc a → out_of es a ≡ []
   out_above le = none_by (λ (e : Edge). nat_eq e.from a) (EdgeIn lo hi) (λ e k. below_ne e.from a (omega (arith, k.1, k.2, le))) es h
 

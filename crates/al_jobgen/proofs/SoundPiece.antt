@@ -11,7 +11,7 @@ use Rattle.hy_job.specs.declared.job.Edge.{Edge}
 use Rattle.hy_job.specs.declared.job.Block.{Block}
 use Rattle.hy_job.specs.declared.job.Wire.{Wire}
 use Rattle.hy_job.specs.declared.job.Job.{Job}
-use Rattle.hy_job.specs.Sound.{edges_into, edges_from, blocks_into, blocks_from, arity_of, first_arity, handed_arity, built_width, width_in, Widths, widths_of, inputs, is_first, is_second, may_leave, one_where, AreTwo, AreTwoOf, IsInRange, HasSoundNested, HasKeyPairs, HasAllAsKeys, TakesStates, HasArity, IsWireInRange, LeavesNoInput}
+use Rattle.hy_job.specs.Sound.{edges_into, edges_from, blocks_into, blocks_from, arity_of, handed_arity, built_width, width_in, Widths, widths_of, inputs, is_first, is_second, may_leave, one_where, AreTwo, AreTwoOf, IsInRange, HasSoundNested, HasKeyPairs, HasAllAsKeys, TakesStates, HasArity, IsWireInRange, LeavesNoInput}
 use Rattle.al_jobgen.specs.JobOf.{Step, Piece, activity, last_of, block_at, source_piece, exchange_piece}
 use Rattle.al_jobgen.specs.Added.{activities_from}
 use Rattle.al_jobgen.proofs.SoundGraph.{below_ne, above_ne, BlockIn, into, out_of, out_above, Ranged, Holds, holds_left, holds_right, last_arity, last_may, arity_last, get_first, get_second}
@@ -85,9 +85,6 @@ pub record InTwo (x y : Step) (n m : ℕ) : Type 0 where
 same_numbers : (xs ys : List ℕ) → xs ≡ ys → IsPermutation xs ys
 same_numbers xs ys e = subst (IsPermutation xs) e (IsPermutation-refl xs)
 
-taken_at : (J : Job) (a input : ℕ) (es : List Edge) → edges_into J a ≡ es → width_in J a input ≡ first_arity J (filter (λ e. nat_eq e.input input) es)
-taken_at J a input es e = ap (λ fs. first_arity J (filter (λ e. nat_eq e.input input) fs)) e
-
 pub keep_one : {X : Type 0} (p : X → Bool) (x : X) → p x ≡ true → filter p (x ∷ []) ≡ x ∷ []
 keep_one p x e = rw e refl
 
@@ -153,9 +150,6 @@ activity_sound J a x n fs begin finish takes ends numbers leaving b bn f fn loca
 
 -- two activities of one operator
 module _ (J : Job) (to : ℕ) (x y : Step) (n m : ℕ) (es : List Edge) (own : Holds J to (x ∷ y ∷ []) es (block_at to)) (two : InTwo x y n m) (fs gs : List Edge) where
-  block : Block
-  block = record { before = to; after = suc to }
-
   ends_second : blocks_into J (suc to) ≡ block_at to
   ends_second = own.b_ends (suc to) (omega arith) (omega arith) ∙ keep_one (λ (b : Block). nat_eq b.after (suc to)) (record { before = to; after = suc to }) (nat_same (suc to))
 

@@ -15,11 +15,10 @@ ghost use Rattle.al_jobgen.specs.Columns as spec;
 ghost use Rattle.al_jobgen.specs.Parts as parts;
 
 use crate::columns::{column_of, rex_of};
-use crate::vars::joined;
 use al_conj::{all_of, conjuncts};
 use al_func::{Func, Rex};
 use al_phys::JoinForm;
-use al_plan::{Expr, Var};
+use al_plan::{Expr, Var, joined_vars};
 use al_value::{List, NoMemory};
 use hy_job::JoinArg;
 use std::alloc::Global;
@@ -178,8 +177,8 @@ fn parts_of(alloc: Global, ls: &[Var], rs: &[Var], all: &[Expr]) -> Result<Parts
 fn both_of(alloc: Global, ls: &[Var], rs: &[Var]) -> Result<List<Var>, NoMemory>
     ensures { IfOk result (λ both. both ≡ ls.now ++ rs.now) }
 {
-    let left = joined(alloc, List::new(alloc), ls)?;
-    joined(alloc, left, rs)
+    let left = joined_vars(alloc, List::new(alloc), ls)?;
+    joined_vars(alloc, left, rs)
 }
 
 /// The conjuncts that are no keys, as one condition over columns.

@@ -9,7 +9,6 @@ mod join;
 mod laws;
 mod nested;
 mod operators;
-mod vars;
 
 pub use job::job_of;
 pub use laws::{column_laws, literal_cases};

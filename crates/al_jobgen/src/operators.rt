@@ -202,9 +202,10 @@ fn group_arg(
     ensures values { IfOk result (λ arg. AreValues (group_literals arg.nested)) }
 {
     let vars = phys_live(alloc, input)?;
+    let keys = old_columns(alloc, vars.as_slice(), keys)?;
     let nested = nested_of(alloc, vars.as_slice(), nested)?;
     Ok(GroupArg {
-        keys: old_columns(alloc, vars.as_slice(), keys)?,
+        keys,
         nested: Some(nested),
     })
 }
@@ -450,10 +451,10 @@ pub fn put_own(
             let columns = columns_in(alloc, vars.as_slice(), input.get())?;
             put(activities, number, Kind::Result { columns }, arity)
         }
-        Phys::HashExchange { .. } => Ok(()),
-        Phys::Broadcast { .. } => Ok(()),
-        Phys::Gather { .. } => Ok(()),
-        Phys::Merge { .. } => Ok(()),
+        Phys::HashExchange { .. }
+        | Phys::Broadcast { .. }
+        | Phys::Gather { .. }
+        | Phys::Merge { .. } => Ok(()),
     }
 }
 
@@ -463,29 +464,15 @@ pub fn count_of(p: &Phys) -> u32
     ensures { result ≡ length (own_of p.now) }
 {
     match p {
-        Phys::Scan { .. } => 1,
-        Phys::One => 1,
-        Phys::Assign { .. } => 1,
-        Phys::Select { .. } => 1,
-        Phys::Project { .. } => 1,
-        Phys::Unnest { .. } => 1,
-        Phys::Subplan { .. } => 1,
-        Phys::Check { .. } => 1,
-        Phys::Join { .. } => 2,
-        Phys::HashGroup { .. } => 2,
-        Phys::PreGroup { .. } => 1,
-        Phys::HashDistinct { .. } => 2,
-        Phys::AggPart { .. } => 1,
-        Phys::AggFinal { .. } => 1,
-        Phys::Union { .. } => 1,
-        Phys::Sort { .. } => 2,
-        Phys::Limit { .. } => 1,
-        Phys::LocalLimit { .. } => 1,
-        Phys::Result { .. } => 1,
-        Phys::HashExchange { .. } => 0,
-        Phys::Broadcast { .. } => 0,
-        Phys::Gather { .. } => 0,
-        Phys::Merge { .. } => 0,
+        Phys::HashExchange { .. }
+        | Phys::Broadcast { .. }
+        | Phys::Gather { .. }
+        | Phys::Merge { .. } => 0,
+        Phys::Join { .. }
+        | Phys::HashGroup { .. }
+        | Phys::HashDistinct { .. }
+        | Phys::Sort { .. } => 2,
+        _ => 1,
     }
 }
 

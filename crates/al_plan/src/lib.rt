@@ -14,7 +14,7 @@ pub use file::{Place, PlanFile, Refused, RefusedKind};
 pub use gather::uses;
 pub use laws::plan_laws;
 pub use plan::{AggCall, Generator, OrderKey, Plan};
-pub use variables::{live, ordered};
+pub use variables::{joined_vars, live, live_over, ordered};
 
 #[cfg(test)]
 mod tests;

@@ -19,7 +19,7 @@ pub fn live(alloc: Global, p: &Plan) -> Result<List<Var>, NoMemory>
 }
 
 /// These variables, and copies of more behind them.
-fn joined(alloc: Global, vars: List<Var>, more: &[Var]) -> Result<List<Var>, NoMemory>
+pub fn joined_vars(alloc: Global, vars: List<Var>, more: &[Var]) -> Result<List<Var>, NoMemory>
     ensures { IfOk result (λ both. both ≡ vars ++ more.now) }
 {
     let mut all = vars;
@@ -42,7 +42,7 @@ fn with_made<T>(alloc: Global, vars: List<Var>, made: &[(Var, T)]) -> Result<Lis
 
 /// The live variables of a plan in which these are live at `nested`.
 #[tactic(auto, using(crate::proofs::PlanRules::live_laws))]
-fn live_over(alloc: Global, p: &Plan, given: &[Var]) -> Result<List<Var>, NoMemory>
+pub fn live_over(alloc: Global, p: &Plan, given: &[Var]) -> Result<List<Var>, NoMemory>
     ensures { IfOk result (λ vars. vars ≡ meaning.live p.now given.now) }
 {
     match p {
@@ -63,17 +63,17 @@ fn live_over(alloc: Global, p: &Plan, given: &[Var]) -> Result<List<Var>, NoMemo
         Plan::Subplan { nested, input } => {
             let outer = live_over(alloc, input.get(), given)?;
             let inner = live_over(alloc, nested.get(), outer.as_slice())?;
-            joined(alloc, outer, inner.as_slice())
+            joined_vars(alloc, outer, inner.as_slice())
         }
         Plan::Join { left, right, .. } => {
             let vars = live_over(alloc, left.get(), given)?;
             let more = live_over(alloc, right.get(), given)?;
-            joined(alloc, vars, more.as_slice())
+            joined_vars(alloc, vars, more.as_slice())
         }
         Plan::LeftJoin { left, right, .. } => {
             let vars = live_over(alloc, left.get(), given)?;
             let more = live_over(alloc, right.get(), given)?;
-            joined(alloc, vars, more.as_slice())
+            joined_vars(alloc, vars, more.as_slice())
         }
         Plan::Group {
             keys,
@@ -83,7 +83,7 @@ fn live_over(alloc: Global, p: &Plan, given: &[Var]) -> Result<List<Var>, NoMemo
             let outer = live_over(alloc, input.get(), given)?;
             let inner = live_over(alloc, nested.get(), outer.as_slice())?;
             let new = with_made(alloc, List::new(alloc), keys.as_slice())?;
-            joined(alloc, new, inner.as_slice())
+            joined_vars(alloc, new, inner.as_slice())
         }
         Plan::Distinct { input } => live_over(alloc, input.get(), given),
         Plan::Union { made, .. } => copy_vars(alloc, made.as_slice()),
