@@ -9,8 +9,8 @@ use Rattle.al_func.specs.declared.rex.Rex.TheVariants as R
 use Rattle.al_func.specs.declared.rex.Rex.TheOpen as L
 use Rattle.al_phys.proofs.FlowLaws.{all_both}
 use Rattle.hy_job.specs.declared.job.Activity.{Activity}
-use Rattle.hy_job.specs.Columns.{AreValues}
 use Rattle.hy_job.specs.Literals.{literals, literals_step, kind_literals}
+use Rattle.hy_job.specs.Columns.{AreValues}
 use Rattle.al_jobgen.specs.Literals.{HaveValueLiterals}
 
 flat_same : (args : List Rex) → flat_map (λ a. a) (map literals args) ≡ flat_map literals args

@@ -3,8 +3,8 @@
 ghost use Rattle.std.specs.Prelude.{◌≡◌, IfOk};
 ghost use Rattle.std.specs.List.{flat_map};
 ghost use Rattle.al_plan.specs.Allows as meaning;
-ghost use Rattle.hy_job.specs.Columns.{AreValues};
 ghost use Rattle.hy_job.specs.Literals.{agg_literals, gen_literals, literals, n_literals};
+ghost use Rattle.hy_job.specs.Columns.{AreValues};
 ghost use Rattle.al_jobgen.specs.Columns as spec;
 
 use crate::columns::{agg_kinds, columns_of, gen_rex, made_aggs, made_rexes, rex_of, sort_keys};

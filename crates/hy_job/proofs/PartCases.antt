@@ -1,19 +1,27 @@
 -- The worked cases of completed checks and of parts of runs.
 use Rattle.std.proofs.Common.{◌≡◌, ℕ, true, false, nat_eq, List, [], ◌∷◌, ◌++◌, map, refl, ap, sym, subst, ◌∙◌, arith, append-nil, append_assoc}
 use Rattle.std.specs.Int.{int_wrap}
+use Rattle.std.specs.List.{AllByRecursion}
 use Rattle.std.proofs.lemmas.List.{map-append}
 use Rattle.std.proofs.lemmas.List.Elements.{All-from_recursion}
-use Rattle.al_agg.specs.Part.{state_fields, high_half, low_half}
+use Rattle.std.specs.Prelude.{pos, length}
+use Rattle.al_value.specs.declared.value.Value.{Value}
+use Rattle.al_value.specs.declared.value.Value.TheVariants as V
+use Rattle.al_func.specs.declared.rex.Rex.TheVariants as R
+use Rattle.al_func.specs.Rex.{eval_rex}
+use Rattle.al_func.proofs.RexLaws.{eval_rex-Col}
+use Rattle.al_agg.specs.Agg.{present, wrapped}
+use Rattle.al_agg.specs.Part.{state_fields, halves, high_half, low_half}
 use Rattle.hy_job.specs.declared.nested.AggRex.TheVariants as C
 use Rattle.hy_job.specs.declared.job.Kind.TheVariants as K
-use Rattle.hy_job.specs.Columns.{Row, cut, holds, state_row}
-use Rattle.hy_job.specs.Sound.{edges_from, edges_at}
+use Rattle.hy_job.specs.Columns.{column, Row, cut, holds, state_row}
+use Rattle.hy_job.specs.Sound.{width_in, edges_from, edges_at}
 use Rattle.hy_job.specs.Runs.{Taken, TaskPart, MayCome, SendsBy, Receives, rows_at, sent_by}
 use Rattle.hy_job.specs.Settled.{Open, Rows, Close, IsCompleted, taken_rows, is_fail}
 use Rattle.hy_job.specs.Cases.{int, row_of, is_text, act}
 use Rattle.hy_job.specs.SettledCases.{listing, checking}
-use Rattle.hy_job.specs.RunCases.{passing_record, CheckPasses, took_first, none_ended, PartIsFront, totalling, counted_none, RowEndsPart}
-use Rattle.hy_job.proofs.Members.{no_bool}
+use Rattle.hy_job.specs.RunCases.{passing_record, CheckPasses, took_first, none_ended, PartIsFront, totalling, counted_none, RowEndsPart, counting_none, RowsComeFitting}
+use Rattle.hy_job.proofs.Members.{no_bool, by_cases}
 use Rattle.hy_job.proofs.CheckCases.{rows_append}
 
 module _ (set name text : List ℕ) (row : Row) where
@@ -130,3 +138,49 @@ module _ (set : List ℕ) where
 
 pub row_ends_part : RowEndsPart
 row_ends_part set = (open_is_none set, closed_is set)
+
+-- ---- rows that fit
+
+none_present : (rows : List Row) → AllByRecursion (λ row. row ≡ []) rows → present (map (eval_rex (R.Col 0)) rows) ≡ []
+none_present [] h = refl
+none_present (row ∷ rows) h = rw (null row h.0) (none_present rows h.1)
+  where
+    null : (row : Row) → row ≡ [] → eval_rex (R.Col 0) row ≡ V.Null
+    null row e = eval_rex-Col 0 row ∙ ap (λ r. column r 0) e
+
+counts_none : (rows : List Row) → AllByRecursion (λ row. row ≡ []) rows → state_row (C.Count (R.Col 0) ∷ []) rows ≡ state_row (C.Count (R.Col 0) ∷ []) []
+unfolding state_fields
+counts_none rows h = ap (λ (vs : List Value). halves (wrapped (pos (length vs))) ++ []) (none_present rows h)
+
+empty_row : (row : Row) → length row ≡ 0 → row ≡ []
+empty_row [] e = refl
+empty_row (v ∷ row) e = absurd (omega (arith, e))
+
+narrow : (more : List Taken) → AllByRecursion (MayCome counting_none (act 1 (K.AggPart (C.Count (R.Col 0) ∷ [])) 2) 0 none_ended) more → AllByRecursion (λ row. row ≡ []) (rows_at 0 more)
+narrow [] may = tt
+narrow (t ∷ more) may = by_cases (nat_eq t.input 0)
+    (λ y. rw y (empty_row t.row (may.0.fits ∙ ap (width_in counting_none 1) zero), narrow more may.1))
+    (λ n. rw n (narrow more may.1))
+  where
+    zero : t.input ≡ 0
+    zero = let k = may.0.of.known in omega (arith, k)
+
+pub rows_come_fitting : RowsComeFitting
+rows_come_fitting more may = (
+  record { to = λ r. state_row (C.Count (R.Col 0) ∷ []) [] ∷ []; on = [] },
+  record { to = λ r lt. ([], refl); on = ([], refl) },
+  record {
+    received = λ input. rows_at 0 more;
+    made = state_row (C.Count (R.Col 0) ∷ []) [] ∷ [];
+    receives = λ input lt. of_zero input (omega (arith, lt));
+    makes = ap (λ row. row ∷ []) (sym (counts_none (rows_at 0 more) (narrow more may)));
+    sends = λ r lt. first r (omega (arith, lt));
+    hands_on = refl;
+  },
+)
+  where
+    of_zero : (input : ℕ) → input ≡ 0 → Receives counting_none 1 more input (rows_at 0 more)
+    of_zero input z = subst (λ x. Receives counting_none 1 more x (rows_at 0 more)) (sym z) refl
+
+    first : (r : ℕ) → r ≡ 0 → state_row (C.Count (R.Col 0) ∷ []) [] ∷ [] ≡ sent_by (edges_from counting_none 1) 1 0 r (state_row (C.Count (R.Col 0) ∷ []) [] ∷ [])
+    first r e = subst (λ x. state_row (C.Count (R.Col 0) ∷ []) [] ∷ [] ≡ sent_by (edges_from counting_none 1) 1 0 x (state_row (C.Count (R.Col 0) ∷ []) [] ∷ [])) (sym e) refl

@@ -1,5 +1,6 @@
 -- What small activities make, what tasks may put, and what they may not.
 use Rattle.std.specs.Prelude.{◌≡◌, ◌⊎◌, ◌↔◌, ℕ, nat_eq, Bool, true, false, if◌then◌else◌, List, [], ◌∷◌, ◌++◌, map}
+use Rattle.al_func.specs.declared.rex.Rex.TheVariants as R
 use Rattle.hy_job.specs.declared.nested.AggRex.TheVariants as C
 use Rattle.hy_job.specs.declared.nested.NestedPlan.{NestedPlan}
 use Rattle.hy_job.specs.declared.job.GroupArg.{GroupArg}
@@ -129,6 +130,19 @@ counted_none = record { to = λ r. if nat_eq r 0 then state_row (C.CountAll ∷ 
 abbrev pub RowEndsPart : Type 0
 RowEndsPart = (set : List ℕ) → (TaskPart (totalling set) (act 1 (K.AggPart (C.CountAll ∷ [])) 2) 1 none_ended (took_first []) counted_none → ⊥)
     × TaskPart (totalling set) (act 1 (K.AggPart (C.CountAll ∷ [])) 2) 1 (λ input sender. nat_eq sender 1) (took_first []) counted_none
+
+-- on one partition, the values of rows that have none are counted
+abbrev pub counting_none : Job
+counting_none = record {
+  activities = act 0 K.One 0 ∷ act 1 (K.AggPart (C.Count (R.Col 0) ∷ [])) 2 ∷ act 2 (K.Result (0 ∷ [])) 1 ∷ [];
+  edges = wire 0 1 W.OneToOne ∷ wire 1 2 W.OneToOne ∷ [];
+  blocks = [];
+  partitions = 1;
+}
+
+-- so its row may be put although its sender is open: no row with a value comes
+abbrev pub RowsComeFitting : Type 0
+RowsComeFitting = TaskPart counting_none (act 1 (K.AggPart (C.Count (R.Col 0) ∷ [])) 2) 0 none_ended (took_first []) (record { to = λ r. state_row (C.Count (R.Col 0) ∷ []) [] ∷ []; on = [] })
 
 -- ---- drivers on their way
 

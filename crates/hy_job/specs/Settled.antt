@@ -12,6 +12,7 @@ use Rattle.hy_job.specs.declared.job.Stage.{Stage}
 use Rattle.hy_job.specs.Columns.{Row, holds}
 use Rattle.hy_job.specs.Sound.{SoundJob}
 use Rattle.hy_job.specs.Stages.{AreNext, activities_in}
+use Rattle.hy_job.specs.Exchange.{AreSent}
 use Rattle.hy_job.specs.Runs.{Taken, Took, TaskRun, TaskPart, IsReceiver, IsSender, rows_at}
 
 -- ---- what goes through a mailbox
@@ -239,3 +240,15 @@ IsFaultBeside job stages records a =
 abbrev pub StopsByFaults : Type 0
 StopsByFaults = (job : Job) (stages : List Stage) (records : Records) → SoundJob job → AreNext job [] stages → Settled job stages records
     → (a j : ℕ) → Contains (activities_in stages) a → j < job.partitions → (records a j).outcome ≡ Stopped → IsFaultBeside job stages records a
+
+-- ---- wires
+
+-- a run of this record made these rows
+abbrev pub MadeBy : Job → Activity → ℕ → TaskRecord → List Row → Type 0
+MadeBy job a j r rows = (run : TaskRun job a j (given r r.took) (record { to = λ to. put_rows (r.put to); on = r.hands_on })) × (run.made ≡ rows)
+
+-- what the tasks at one end of an edge made is sent to those at the other end, which take it
+abbrev pub SettledIsSent : Type 0
+SettledIsSent = (job : Job) (stages : List Stage) (records : Records) → SoundJob job → Settled job stages records → (e : Edge) → Contains job.edges e → Contains (activities_in stages) e.to
+    → (a : Activity) → Contains job.activities a → a.number ≡ e.from → (made : ℕ → List Row) → ((s : ℕ) → s < job.partitions → MadeBy job a s (records e.from s) (made s))
+    → AreSent e.wire job.partitions e.input made (λ r. taken_rows (records e.to r).took)

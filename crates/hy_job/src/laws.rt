@@ -3,10 +3,10 @@ ghost use Rattle.hy_job.specs.Boxes.{BoxesAreReached, BoxesHaveOrigins, OriginsA
 ghost use Rattle.hy_job.specs.Cases.{BlockIsNeeded, BuildComesFirst, GroupingIsSound, JoiningHasFourStages, JoiningIsSound, NullHasNoPartner, ReadingIsSound, SortingHasTwoStages, SortingIsSound, StatesAreJoined, StatesHaveFields};
 ghost use Rattle.hy_job.specs.Drivers.{DriversMove, NewDriversGive};
 ghost use Rattle.hy_job.specs.Exchange.{WiresExchange};
-ghost use Rattle.hy_job.specs.RunCases.{CheckPasses, EmitsWhatIsLeft, FailedSoFar, FirstGathers, HashHasTwoBoxes, InputsApart, LastRowOnce, LimitGoesOn, LimitSkips, LiveSoFar, MergeHasTwoBoxes, NoneOfNone, PartIsFront, RaisedInStage, RowEndsPart, ScanIsDealt, StretchesHaveRows, ThirdTask, UnionHasBoth, WordsEnd, WordsMay};
+ghost use Rattle.hy_job.specs.RunCases.{CheckPasses, EmitsWhatIsLeft, FailedSoFar, FirstGathers, HashHasTwoBoxes, InputsApart, LastRowOnce, LimitGoesOn, LimitSkips, LiveSoFar, MergeHasTwoBoxes, NoneOfNone, PartIsFront, RaisedInStage, RowEndsPart, RowsComeFitting, ScanIsDealt, StretchesHaveRows, ThirdTask, UnionHasBoth, WordsEnd, WordsMay};
 ghost use Rattle.hy_job.specs.RunLaws.{ProbesMove, RunsFit, RunsHaveValues};
 ghost use Rattle.hy_job.specs.Runs.{FreeOutputs};
-ghost use Rattle.hy_job.specs.Settled.{FailsAtLast, PassesAtLast, StopsByFaults};
+ghost use Rattle.hy_job.specs.Settled.{FailsAtLast, PassesAtLast, SettledIsSent, StopsByFaults};
 ghost use Rattle.hy_job.specs.SettledCases.{CheckFails, FailCompletesNone, FailStops, HashSettles, ListingSettles, NobodySends, NoneStopsAlone, SortIsHanded, SortSettles};
 ghost use Rattle.hy_job.specs.Rest.{ContinuesThen, FreeAlive, FreeContinues, FreeFinished, HeldAlive, HeldContinues, HeldFinished, IdleContinues, InOrderAlive, InOrderContinues, InOrderFinished, NoneIsOpen};
 
@@ -62,12 +62,14 @@ pub fn driver_laws()
     ensures moved { DriversMove }
 {}
 
-/// What is known of a task as far as it has come is what its record needs at the end, and where a
-/// task stopped, another one faulted. It does nothing: its clauses speak of all records.
+/// What is known of a task as far as it has come is what its record needs at the end; where a task
+/// stopped, another one faulted; and what whole runs made comes over their wires. It does nothing:
+/// its clauses speak of all records.
 pub fn record_laws()
     ensures fails { FailsAtLast }
     ensures passes { PassesAtLast }
     ensures stops { StopsByFaults }
+    ensures sent { SettledIsSent }
 {}
 
 /// What is sent over a wire and taken at its other end is what the wire makes of the rows that go
@@ -120,6 +122,7 @@ pub fn run_cases()
     ensures check_passes { CheckPasses }
     ensures part_is_front { PartIsFront }
     ensures row_ends_part { RowEndsPart }
+    ensures rows_come_fitting { RowsComeFitting }
     ensures received { InputsApart }
     ensures limit_goes_on { LimitGoesOn }
     ensures emits_what_is_left { EmitsWhatIsLeft }
