@@ -1,5 +1,7 @@
 -- Sets driven one after the other.
+use Rattle.std.specs.Prelude.{IfOk, Result, Ok, Err}
 use Rattle.std.proofs.Common.{◌≡◌, List, [], ◌∷◌, ◌++◌, refl, ap, sym, subst, ◌∙◌, append_assoc, append-nil}
+use Rattle.al_value.specs.declared.fault.NoMemory.{NoMemory}
 use Rattle.al_plan.specs.declared.plan.Plan.{Plan}
 use Rattle.al_plan.specs.Refines.{Fit, Refines, Replaces}
 use Rattle.al_plan.proofs.Refine.{replaces-refl, replaces-trans}
@@ -9,6 +11,12 @@ use Rattle.al_rule.specs.declared.trace.Trace.{Trace}
 use Rattle.al_rule.specs.Rules.{Rules}
 use Rattle.al_rule.specs.Driven.{Driven}
 use Rattle.al_opt.specs.Optimised.{LegalTrace, Reaches, rules_of, set_order}
+
+-- a plan that is reached is put into a box
+pub reaches_boxed : (rules : Rules) (p given q : Plan) (before now : Trace) (r : Result Plan NoMemory) → given ≡ p → Reaches rules given before now q → IfOk r (λ b. b ≡ q) → IfOk r (λ b. Reaches rules p before now b)
+reaches_boxed rules p given q before now (Ok b) e h f =
+    subst (λ (z : Plan). Reaches rules z before now b) e (subst (λ (z : Plan). Reaches rules given before now z) (sym f) h)
+reaches_boxed rules p given q before now (Err x) e h f = tt
 
 -- the trace gained steps by which these sets lead from the first plan to the second
 pub record DrivenOn (sets_of : SetName → Rules) (sets : List SetName) (p : Plan) (before now : Trace) (q : Plan) : Type 0 where

@@ -1,4 +1,9 @@
+use Rattle.al_rules_select.specs.Sets.{split_rules}
+use Rattle.al_opt.proofs.OptimisedLaws.{reaches_boxed}
 use Rattle.al_opt.proofs.optimiser.split.Goals as goal
 
 pub returns-in-Ok : goal.returns-in-Ok
-returns-in-Ok c = record { drove = c.in-Ok.ensures.driven; stuck = c.in-Ok.ensures.stuck c.split_laws.ensures; replaces = c.in-Ok.ensures.replaces }
+returns-in-Ok c =
+    reaches_boxed split_rules _ _ _ _ _ c.new.result c.into_inner.ensures
+    (record { drove = c.in-Ok.ensures.driven; stuck = c.in-Ok.ensures.stuck c.split_laws.ensures; replaces = c.in-Ok.ensures.replaces })
+    c.new.ensures
