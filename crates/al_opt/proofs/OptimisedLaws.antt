@@ -1,6 +1,8 @@
 -- Sets driven one after the other.
 use Rattle.std.specs.List.{flat_map}
+use Rattle.std.specs.Prelude.{IfOk, Result, Ok, Err}
 use Rattle.std.proofs.Common.{◌≡◌, Bool, true, false, List, [], ◌∷◌, ◌++◌, refl, ap, sym, subst, ◌∙◌, append_assoc, append-nil}
+use Rattle.al_value.specs.declared.fault.NoMemory.{NoMemory}
 use Rattle.al_plan.specs.declared.plan.Plan.{Plan}
 use Rattle.al_plan.specs.Refines.{Fit, Refines, Replaces}
 use Rattle.al_plan.proofs.Refine.{replaces-refl, replaces-trans}
@@ -23,6 +25,12 @@ pub reached_out : (rules : Rules) (p q : Plan) (before now : Trace) → Drove ru
 reached_out rules p q before now (steps, gained, leads) (walks, walked, are, last) stuck replaces =
     let same : steps ≡ flat_map (λ w. w) walks = same_gain before.steps steps (flat_map (λ w. w) walks) (sym gained ∙ walked) in
     record { steps = steps; gained = gained; leads = leads; walks = (walks, same, are, last); stuck = stuck; replaces = replaces }
+
+-- a plan that is reached is put into a box
+pub reaches_boxed : (once : Bool) (rules : Rules) (p given q : Plan) (before now : Trace) (r : Result Plan NoMemory) → given ≡ p → Reaches once rules given before now q → IfOk r (λ b. b ≡ q) → IfOk r (λ b. Reaches once rules p before now b)
+reaches_boxed once rules p given q before now (Ok b) e h f =
+    subst (λ (z : Plan). Reaches once rules z before now b) e (subst (λ (z : Plan). Reaches once rules given before now z) (sym f) h)
+reaches_boxed once rules p given q before now (Err x) e h f = tt
 
 -- the trace gained steps by which these sets lead from the first plan to the second
 pub record DrivenOn (sets_of : SetName → Rules) (once : SetName → Bool) (sets : List SetName) (p : Plan) (before now : Trace) (q : Plan) : Type 0 where

@@ -8,35 +8,56 @@ ghost use Rattle.al_opt.specs.Optimised.{LegalTrace, Reaches};
 ghost use Rattle.al_rules_select.specs.Sets.{split_rules};
 
 use al_plan::Plan;
-use al_rule::{ApplyFault, RuleSet, Trace, drive_fixpoint, drive_once};
+use al_rule::{RuleSet, Trace, drive_fixpoint, drive_once};
 use al_rules_group::GroupSet;
 use al_rules_join::JoinSet;
 use al_rules_order::OrderSet;
 use al_rules_prune::PruneSet;
 use al_rules_select::{SelectSet, SplitSet, split_laws};
-use al_value::NoMemory;
+use al_value::{Boxed, NoMemory};
 use std::alloc::Global;
 
+fn copied(alloc: Global, p: &Plan) -> Result<Boxed<Plan>, NoMemory>
+    ensures { IfOk result (λ q. q ≡ p.now) }
+{
+    match p.copy(alloc) {
+        Ok(q) => Boxed::new(alloc, q),
+        Err(fault) => Err(fault),
+    }
+}
+
 /// Drives a set until none of its rules matches.
-fn exhaust<S: RuleSet>(alloc: Global, set: &S, p: Plan, t: &mut Trace) -> Result<Plan, NoMemory>
+fn exhaust<S: RuleSet>(
+    alloc: Global,
+    set: &S,
+    p: Boxed<Plan>,
+    t: &mut Trace,
+) -> Result<Boxed<Plan>, NoMemory>
     requires { Fit p }
     ensures { IfOk result (λ q. Reaches false (S.rules_of set.now) p t.old t.new q) }
 {
-    match drive_fixpoint(alloc, set, p, t) {
-        Ok(q) => Ok(q),
-        Err(ApplyFault::NoMemory(_)) => Err(NoMemory),
+    match drive_fixpoint(alloc, set, p.into_inner(), t) {
+        Ok(q) => Boxed::new(alloc, q),
+        Err(fault) => {
+            // A call, since what drops in place is proved variant by variant.
+            drop(fault);
+            Err(NoMemory)
+        }
     }
 }
 
 /// Takes conditions apart: one walk is enough, since no walk makes a new conjunction.
-fn split(alloc: Global, p: Plan, t: &mut Trace) -> Result<Plan, NoMemory>
+fn split(alloc: Global, p: Boxed<Plan>, t: &mut Trace) -> Result<Boxed<Plan>, NoMemory>
     requires { Fit p }
     ensures { IfOk result (λ q. Reaches true split_rules p t.old t.new q) }
 {
     split_laws();
-    match drive_once(alloc, &SplitSet, p, t) {
-        Ok(q) => Ok(q),
-        Err(ApplyFault::NoMemory(_)) => Err(NoMemory),
+    match drive_once(alloc, &SplitSet, p.into_inner(), t) {
+        Ok(q) => Boxed::new(alloc, q),
+        Err(fault) => {
+            drop(fault);
+            Err(NoMemory)
+        }
     }
 }
 
@@ -48,7 +69,7 @@ pub fn optimise(alloc: Global, p: &Plan) -> Result<(Plan, Trace), NoMemory>
     ensures refines { IfOk result (λ both. Refines both.0 p.now) }
 {
     let mut trace = Trace::new(alloc);
-    let q = p.copy(alloc)?;
+    let q = copied(alloc, p)?;
     let q = split(alloc, q, &mut trace)?;
     let q = exhaust(alloc, &SelectSet, q, &mut trace)?;
     let q = exhaust(alloc, &JoinSet, q, &mut trace)?;
@@ -56,5 +77,6 @@ pub fn optimise(alloc: Global, p: &Plan) -> Result<(Plan, Trace), NoMemory>
     let q = exhaust(alloc, &OrderSet, q, &mut trace)?;
     let q = exhaust(alloc, &GroupSet, q, &mut trace)?;
     let q = exhaust(alloc, &PruneSet, q, &mut trace)?;
+    let q = q.into_inner();
     Ok((q, trace))
 }

@@ -45,20 +45,3 @@ gap_len-within inside [] = omega arith
 gap_len-within inside (b ∷ bytes) =
     let rec = gap_len-within (is_inside inside b) bytes in
     cond_both (is_between inside b) (suc (gap_len (is_inside inside b) bytes)) 0 (λ n. n ≤ length (b ∷ bytes)) (λ _. omega arith) (λ _. omega arith)
-
--- ---- a loop over the bytes
-
-pub gap_more : (inside : Bool) (bytes : List ℕ) (i total : ℕ) → i < length bytes → i + gap_len inside (drop i bytes) ≡ total → is_between inside (get_or bytes i 0) ≡ true → (i + 1) + gap_len (is_inside inside (get_or bytes i 0)) (drop (i + 1) bytes) ≡ total
-gap_more inside bytes i total h so_far passes =
-    let e : gap_len inside (drop i bytes) ≡ suc (gap_len (is_inside inside (get_or bytes i 0)) (drop (i + 1) bytes)) = at_drop_more (gap_len inside) bytes i 0 h ∙ cond-true (is_between inside (get_or bytes i 0)) _ 0 passes in
-    omega arith
-
-pub gap_stop : (inside : Bool) (bytes : List ℕ) (i total : ℕ) → i < length bytes → i + gap_len inside (drop i bytes) ≡ total → is_between inside (get_or bytes i 0) ≡ false → i ≡ total
-gap_stop inside bytes i total h so_far stops =
-    let e : gap_len inside (drop i bytes) ≡ 0 = at_drop_more (gap_len inside) bytes i 0 h ∙ cond-false (is_between inside (get_or bytes i 0)) (suc (gap_len (is_inside inside (get_or bytes i 0)) (drop (i + 1) bytes))) 0 stops in
-    omega arith
-
-pub gap_end : (inside : Bool) (bytes : List ℕ) (i total : ℕ) → i ≡ length bytes → i + gap_len inside (drop i bytes) ≡ total → length bytes ≡ total
-gap_end inside bytes i total h so_far =
-    let e : gap_len inside (drop i bytes) ≡ 0 = at_drop_all (gap_len inside) bytes i (omega arith) in
-    omega arith

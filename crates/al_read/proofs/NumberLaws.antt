@@ -10,9 +10,6 @@ use Rattle.al_read.specs.declared.plan.reader.Stopped.{Stopped}
 use Rattle.al_read.specs.declared.plan.reader.Stopped.TheVariants as stops
 use Rattle.al_read.specs.PlanReading.{is_int, int_of_digits}
 
-abbrev field : Value → Result Value DataKind
-field v = Ok v
-
 -- an INT field and a number are read alike
 pub int_is : (digits : List ℕ) (z : ℤ) → int_field digits ≡ Ok (V.Int z) → int_of_digits digits ≡ Ok z
 int_is digits z h =

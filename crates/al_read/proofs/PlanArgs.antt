@@ -20,11 +20,6 @@ use Rattle.al_read.proofs.PlanForms.{Forms, Taken, itself, done, skip, keep, sha
 use Rattle.al_read.proofs.PlanWords.{opens_form, closes_form, variable_form, agg_form, agg_name, split_form, split_name, direction_form, name_form, kind_form}
 use Rattle.al_read.proofs.PlanItems.{Fits, expr_form, all_from, all_to}
 
-abbrev pub Always : {A : Type 0} → A → Type 0
-Always x = Unit {0}
-
--- ---- variables
-
 pub flat_single : {X : Type 0} (f : X → Marked) (xs : List X) → flat_map (λ x. f x ∷ []) xs ≡ map f xs
 flat_single f [] = refl
 flat_single f (x ∷ xs) = ap (λ (l : List Marked). f x ∷ l) (flat_single f xs)

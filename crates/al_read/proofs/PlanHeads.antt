@@ -558,9 +558,6 @@ args_form n (op.Two w) = two_args_form n w
 abbrev pub head_words : Head → List Marked
 head_words h = plain (Name (head_word h)) ∷ head_args h
 
-abbrev HeadShape : Type 0
-HeadShape = Op × Head
-
 pub head_form : (n : ℕ) → Forms n (head_at n) itself head_words HeadFits
 unfolding head_at
 head_form n =

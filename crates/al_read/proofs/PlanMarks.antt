@@ -286,17 +286,6 @@ never_parts (m ∷ ms) (y ∷ st) k h e = go (λ next b r. never_parts ms next k
 
 -- ---- in front of the root no operator begins
 
-abbrev head_sym : Sym → Bool
-head_sym AnOpen = true
-head_sym AClose = true
-head_sym ATitle = true
-head_sym AVersion = true
-head_sym AName = true
-head_sym AFile = true
-head_sym AKind = true
-head_sym Cols = true
-head_sym _ = false
-
 abbrev early : List Sym → Bool
 early [] = false
 early (Parts ∷ k) = late k
@@ -330,9 +319,6 @@ early (AnOp ∷ k) = false
 -- in front of the root, or behind it
 abbrev Quiet : List Marked → List Sym → Type 0
 Quiet ms st = (k : List Sym) → run st ms ≡ Some (Parts ∷ k) → operators_in ms ≡ 0
-
-some_list : (a b : List Sym) → on a ≡ on b → a ≡ b
-some_list a b e = cc
 
 quiet_when : (ms : List Marked) (st : List Sym) → Quiet ms st → (b : Bool) (k : List Sym) → (on_top st (when b []) >>- λ next. run next ms) ≡ Some (Parts ∷ k) → operators_in ms ≡ 0
 quiet_when ms st rec true k e = rec k e

@@ -22,7 +22,7 @@ use Rattle.al_read.proofs.Readings.{one}
 use Rattle.al_read.proofs.PlanRefuses.{file_stops}
 use Rattle.al_read.proofs.PlanForms.{Forms, Ready, Taken, AreSound}
 use Rattle.al_read.proofs.PlanWhole.{whole_form, parts_words, PartsFit}
-use Rattle.al_read.proofs.PlanText.{Told, told, all_taken, sound_take, sound_tokens, shallow_within, front_shallow, behind_deep}
+use Rattle.al_read.proofs.PlanText.{Told, told, all_taken, sound_take, sound_tokens, front_shallow, behind_deep}
 
 -- what a file is of its tokens
 pub record IsFileOf (tokens : List Placed) (f : PlanFile) : Type 0 where
@@ -74,12 +74,6 @@ answered_same : (f g : PlanFile) → answered f ≡ answered g → f ≡ g
 answered_same f g e = cc
 
 -- ---- what is answered is the file
-
-record Whole (tokens : List Placed) (s : State) (parts : Parts) (f : PlanFile) (deep : List Placed) : Type 0 where
-  pub rest : s.tokens ≡ []
-  pub nothing : deep ≡ []
-  pub file : file_with parts s ≡ f
-  pub few : length s.operators ≤ 256
 
 stopped_no_file : (k : RefusedKind) (rest deep : List Placed) (end : ℕ) (f : PlanFile) → stopped_with k rest deep end ≡ Ok f → ⊥
 stopped_no_file k [] [] end f e = cc
@@ -196,17 +190,6 @@ refusal_given bytes tokens (refused.Refused r) h e = form h.0 tokens h.1 (file_s
 refusal_given bytes tokens refused.NoMemory h e = tt
 
 -- ---- what code answers
-
-same_answers : (a b : Result PlanFile ReadRefused) → a ≡ b → Answers a b
-same_answers (Ok f) b e = sym e
-same_answers (Err (refused.Refused r)) b e = sym e
-same_answers (Err refused.NoMemory) b e = tt
-
-pub answers_are : (got : Result Parts Stopped) (r : Reader) (o : Outcome Parts) (deep : List Placed) (end : ℕ) (result : Result PlanFile ReadRefused) → Gives got r o → IsAnswered got r deep end result → Answers result (answer_of o deep end)
-answers_are (Ok parts) r o deep end result g h = same_answers result (answer_of o deep end) (h ∙ ap (λ (x : Outcome Parts). answer_of x deep end) (sym g))
-answers_are (Err stops.Form) r o deep end result g h = same_answers result (answer_of o deep end) (h ∙ ap (λ (x : Outcome Parts). answer_of x deep end) (sym g))
-answers_are (Err stops.Number) r o deep end result g h = same_answers result (answer_of o deep end) (h ∙ ap (λ (x : Outcome Parts). answer_of x deep end) (sym g))
-answers_are (Err stops.NoMemory) r o deep end result g h = subst (λ (x : Result PlanFile ReadRefused). Answers x (answer_of o deep end)) (sym h) tt
 
 pub given : (bytes : List ℕ) (tokens : List Placed) (r : Result PlanFile ReadRefused) → IsPlanText bytes × IsTokens 0 bytes tokens → Answers r (file_of_tokens tokens (length bytes)) → MatchResult r (Reads bytes) (Refuses bytes)
 given bytes tokens (Ok f) h e = file_given bytes tokens (length bytes) f h e

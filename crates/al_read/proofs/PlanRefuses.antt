@@ -20,7 +20,7 @@ use Rattle.al_read.specs.Reads.{said, words_of, unmarked, open_behind, IsTooDeep
 use Rattle.al_read.specs.PlanReading.{State, Outcome, Read, Stops, start, shallow_len, large_of, unless_large, whole_of, stopped_with, kind_stopped, refused_with, answer_of, file_of_tokens, file_at}
 use Rattle.al_read.proofs.PlanForms.{Ready, Taken, AreSound, noted}
 use Rattle.al_read.proofs.PlanWhole.{parts_words, PartsFit}
-use Rattle.al_read.proofs.PlanText.{told, sound_take, shallow_within, front_shallow, behind_deep}
+use Rattle.al_read.proofs.PlanText.{told, sound_take, front_shallow, behind_deep}
 use Rattle.al_read.proofs.PlanMachine.{Sym, ◌>>-◌, run, run_append, run_on, step, on_top, on, turn, is_none, refuses, takes_numbers, is_number_word, Fated, Stuck, Halted}
 use Rattle.al_read.proofs.PlanPaces.{Paces}
 use Rattle.al_read.proofs.PlanHalts.{file_syms, whole_pace}
@@ -28,9 +28,6 @@ use Rattle.al_read.proofs.PlanMarks.{SameMarks, alike, forked, same_marks, none_
 use Rattle.al_read.proofs.PlanCompletes.{word_step, word_run, word_run_on, Alike, AlikeSym, none, more, alike_refl, refuses_alike, Follows, follows, number_token, all_completed, all_sound, all_complete, no_numbers, one_stands}
 
 -- ---- files and their words
-
-parts_of : PlanFile → Parts
-parts_of f = record { version = f.version; datasets = f.datasets; root = f.root }
 
 nothing_left : (l : List Sym) → Alike [] l → l ≡ []
 nothing_left [] none = refl

@@ -195,9 +195,6 @@ unfolding shallow_len
 cut_at [] depth h = record { within = omega arith; none = λ before after w e _ _. no_word before after w e; deep = λ t us e. absurd cc }
 cut_at (t ∷ ts) depth h = cut_token t.token t ts depth refl h (λ d few. cut_at ts d few)
 
-pub shallow_within : (ts : List Placed) → shallow_len 0 ts ≤ length ts
-shallow_within ts = (cut_at ts 0 (omega arith)).within
-
 pub front_shallow : (ts : List Placed) → IsShallow (words_of (take (shallow_len 0 ts) ts))
 front_shallow ts = λ before after w e deep. (cut_at ts 0 (omega arith)).none before after w e deep.0 deep.1
 

@@ -142,9 +142,6 @@ pub record Kept (bytes : List ℕ) (tokens : List Placed) (rest : List ℕ) : Ty
   pub first : AreFirst 0 bytes tokens (length bytes - length rest) rest
   pub within : length rest ≤ length bytes
 
-pub none_kept : (bytes : List ℕ) → Kept bytes [] bytes
-none_kept bytes = record { first = (omega arith, refl); within = omega arith }
-
 piece_len : (r piece : List ℕ) → piece ≡ drop (gap_len false r) r → length piece ≤ length r
 piece_len r piece e = omega (arith, ap length e, length-drop (gap_len false r) r)
 

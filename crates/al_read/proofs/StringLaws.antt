@@ -166,10 +166,6 @@ abbrev pub with_front : List ℕ → Option (List ℕ × List ℕ) → Option (L
 with_front front None = None
 with_front front (Some x) = Some (front ++ x.0, x.1)
 
-pub no_front : (read : Option (List ℕ × List ℕ)) → with_front [] read ≡ read
-no_front None = refl
-no_front (Some x) = refl
-
 pub more_front : (front : List ℕ) (b : ℕ) (read : Option (List ℕ × List ℕ)) → with_front front (with_byte (Some b) read) ≡ with_front (front ++ b ∷ []) read
 more_front front b None = refl
 more_front front b (Some x) = ap (λ (s : List ℕ). Some (s, x.1)) (sym (append_assoc front (b ∷ []) x.0))

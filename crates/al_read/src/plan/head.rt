@@ -11,7 +11,7 @@ use al_value::{Boxed, List, Name, NoMemory, Text};
 use std::alloc::Global;
 
 /// An operator without inputs.
-#[derive(Debug, Drop)]
+#[derive(Drop)]
 pub enum Leaf {
     Scan(Name, List<Var>),
     Empty,
@@ -19,7 +19,7 @@ pub enum Leaf {
 }
 
 /// What an operator over one input holds beside it.
-#[derive(Debug, Drop)]
+#[derive(Drop)]
 pub enum One {
     Assign(List<(Var, Expr)>),
     Select(Expr),
@@ -33,7 +33,7 @@ pub enum One {
 }
 
 /// What an operator over two inputs holds beside them.
-#[derive(Debug, Drop)]
+#[derive(Drop)]
 pub enum Two {
     Subplan,
     Join(Expr),
@@ -43,7 +43,7 @@ pub enum Two {
 }
 
 /// An operator without its inputs.
-#[derive(Debug, Drop)]
+#[derive(Drop)]
 pub enum Head {
     Leaf(Leaf),
     One(One),

@@ -13,7 +13,7 @@ use al_value::{Boxed, List, NoMemory};
 use std::alloc::Global;
 
 /// A plan file without the places.
-#[derive(Debug, Drop)]
+#[derive(Drop)]
 pub struct Parts {
     pub version: u32,
     pub datasets: List<Decl>,
@@ -43,8 +43,14 @@ impl<'a> Reader<'a> {
     fn one_input(&mut self, levels: usize, one: One) -> Result<Boxed<Plan>, Stopped>
         ensures { reading.Gives result self.new (reading.inputs_at (reading.plan_at levels) (Head.One one) (reading.state self.old)) }
     {
-        let input = self.plan(levels)?;
-        Ok(one.over(self.alloc, input)?)
+        match self.plan(levels) {
+            Ok(input) => Ok(one.over(self.alloc, input)?),
+            Err(stopped) => {
+                // A call, since what drops in place is proved variant by variant.
+                drop(one);
+                Err(stopped)
+            }
+        }
     }
 
     #[cycle(plan)]
