@@ -1,3 +1,4 @@
+use Rattle.std.proofs.Common.{false}
 use Rattle.al_opt.proofs.OptimisedLaws.{reached_out, reaches_boxed}
 use Rattle.al_opt.proofs.optimiser.exhaust.Goals as goal
 

@@ -1,3 +1,4 @@
+use Rattle.std.proofs.Common.{true}
 use Rattle.al_rules_select.specs.Sets.{split_rules}
 use Rattle.al_opt.proofs.OptimisedLaws.{reached_once, reaches_boxed}
 use Rattle.al_opt.proofs.optimiser.split.Goals as goal
