@@ -4,6 +4,3 @@
 mod cases;
 
 pub use cases::worked_cases;
-
-#[cfg(test)]
-mod tests;

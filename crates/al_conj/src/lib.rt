@@ -10,6 +10,3 @@ pub use condition::{all_of, both, conjuncts, is_and, sides};
 pub use laws::conjunct_laws;
 pub use property::{LiteralTrue, Property, has_conjunct};
 pub use split::{Split, take_first};
-
-#[cfg(test)]
-mod tests;

@@ -1,5 +1,4 @@
 ghost use Rattle.std.specs.Prelude.{◌≡◌, IfOk};
-ghost use Rattle.al_func.specs.Func as spec;
 ghost use Rattle.al_func.specs.Rex as rex;
 
 use al_func::{Func, Rex, apply, arity, eval_rex, range_items, split_items};
@@ -11,146 +10,122 @@ fn text(alloc: Global, s: &str) -> Result<Value, Fail> {
     Ok(Value::Text(Text::new(alloc, s)?))
 }
 
-fn one(alloc: Global, f: Func, a: Value) -> Result<Value, Fail>
-    requires { spec.arity f ≡ 1 }
-{
-    Ok(apply(alloc, f, &[a])?)
+/// A cell as a value: a dash is NULL, digits are an int.
+fn value(alloc: Global, cell: &str) -> Result<Value, Fail> {
+    match cell {
+        "-" => Ok(Value::Null),
+        "TRUE" => Ok(Value::Bool(true)),
+        "FALSE" => Ok(Value::Bool(false)),
+        _ => match cell.parse::<i64>() {
+            Ok(n) => Ok(Value::Int(n)),
+            Err(_) => text(alloc, cell),
+        },
+    }
 }
 
-fn two(alloc: Global, f: Func, a: Value, b: Value) -> Result<Value, Fail>
-    requires { spec.arity f ≡ 2 }
-{
-    Ok(apply(alloc, f, &[a, b])?)
+/// The values of cells between commas.
+fn values(alloc: Global, cells: &str) -> Result<Vec<Value>, Fail> {
+    let mut values = Vec::new(alloc);
+    for cell in cells.split(',') {
+        values.push(value(alloc, cell)?)?;
+    }
+    Ok(values)
 }
 
-fn three(alloc: Global, f: Func, a: Value, b: Value, c: Value) -> Result<Value, Fail>
-    requires { spec.arity f ≡ 3 }
-{
-    Ok(apply(alloc, f, &[a, b, c])?)
+fn applied(alloc: Global, f: Func, args: &[Value]) -> Result<Value, Fail> {
+    if args.len() != arity(f) as usize {
+        return Err(Fail::from("arguments"));
+    }
+    Ok(apply(alloc, f, args)?)
 }
 
-fn ints(alloc: Global, f: Func, a: i64, b: i64) -> Result<Value, Fail>
-    requires { spec.arity f ≡ 2 }
-{
-    two(alloc, f, Value::Int(a), Value::Int(b))
-}
+/// A function, its arguments, and what it gives.
+const CALLS: [(Func, &str, &str); 30] = [
+    (Func::Add, "9223372036854775807,1", "-"),
+    (Func::Sub, "3,5", "-2"),
+    (Func::Mul, "-3,5", "-15"),
+    (Func::Div, "7,-2", "-3"),
+    (Func::Div, "-9223372036854775808,-1", "-"),
+    (Func::Div, "7,0", "-"),
+    (Func::Mod, "-7,2", "-1"),
+    (Func::Mod, "-9223372036854775808,-1", "-"),
+    (Func::Neg, "-9223372036854775808", "-"),
+    (Func::Add, "1,TRUE", "-"),
+    (Func::Eq, "2,2", "TRUE"),
+    (Func::Lt, "2,2", "FALSE"),
+    (Func::Le, "-2,2", "TRUE"),
+    (Func::Lt, "B,a", "TRUE"),
+    (Func::Lt, "TRUE,1", "-"),
+    (Func::Eq, "-,-", "-"),
+    (Func::Or, "-,FALSE", "-"),
+    (Func::Or, "-,TRUE", "TRUE"),
+    (Func::And, "FALSE,5", "FALSE"),
+    (Func::Not, "0", "-"),
+    (Func::If, "-,1,2", "2"),
+    (Func::IsNull, "-", "TRUE"),
+    (Func::Coalesce, "-,2", "2"),
+    (Func::Concat, "a,ñb", "añb"),
+    (Func::Length, "añb", "3"),
+    (Func::Substr, "añb,1,1", "ñ"),
+    (Func::Substr, "abc,2,9", "c"),
+    (Func::Substr, "abc,7,1", ""),
+    (Func::Substr, "abc,-1,2", "-"),
+    (Func::LowerAscii, "AÑz", "aÑz"),
+];
 
 #[test]
-fn arithmetic(rt: HostRuntime) -> Result<(), Fail> {
+fn calls(rt: HostRuntime) -> Result<(), Fail> {
     let alloc = rt.alloc();
-    assert_eq!(rt; ints(alloc, Func::Add, i64::MAX, 1)?, Value::Null);
-    assert_eq!(rt; ints(alloc, Func::Sub, 3, 5)?, Value::Int(-2));
-    assert_eq!(rt; ints(alloc, Func::Mul, -3, 5)?, Value::Int(-15));
-    assert_eq!(rt; ints(alloc, Func::Div, 7, -2)?, Value::Int(-3));
-    assert_eq!(rt; ints(alloc, Func::Div, i64::MIN, -1)?, Value::Null);
-    assert_eq!(rt; ints(alloc, Func::Div, 7, 0)?, Value::Null);
-    assert_eq!(rt; ints(alloc, Func::Mod, -7, 2)?, Value::Int(-1));
-    assert_eq!(rt; ints(alloc, Func::Mod, i64::MIN, -1)?, Value::Null);
-    assert_eq!(rt; one(alloc, Func::Neg, Value::Int(i64::MIN))?, Value::Null);
-    assert_eq!(rt;
-        two(alloc, Func::Add, Value::Int(1), Value::Bool(true))?,
-        Value::Null
-    );
+    assert_eq!(rt; arity(Func::Substr), 3);
+    for (f, args, wanted) in CALLS {
+        let given = applied(alloc, f, values(alloc, args)?.as_slice())?;
+        assert_eq!(rt; given, value(alloc, wanted)?, "{args}");
+    }
     Ok(())
 }
 
 #[test]
-fn comparisons(rt: HostRuntime) -> Result<(), Fail> {
+fn refuses_long_texts(rt: HostRuntime) -> Result<(), Fail> {
     let alloc = rt.alloc();
-    assert_eq!(rt; ints(alloc, Func::Eq, 2, 2)?, Value::Bool(true));
-    assert_eq!(rt; ints(alloc, Func::Lt, 2, 2)?, Value::Bool(false));
-    assert_eq!(rt; ints(alloc, Func::Le, -2, 2)?, Value::Bool(true));
-    let less = two(alloc, Func::Lt, text(alloc, "B")?, text(alloc, "a")?)?;
-    assert_eq!(rt; less, Value::Bool(true));
-    let mixed = two(alloc, Func::Lt, Value::Bool(true), Value::Int(1))?;
-    assert_eq!(rt; mixed, Value::Null);
-    assert_eq!(rt;
-        two(alloc, Func::Eq, Value::Null, Value::Null)?,
-        Value::Null
-    );
-    Ok(())
-}
-
-#[test]
-fn logic(rt: HostRuntime) -> Result<(), Fail> {
-    let alloc = rt.alloc();
-    let or = two(alloc, Func::Or, Value::Null, Value::Bool(false))?;
-    assert_eq!(rt; or, Value::Null);
-    let or = two(alloc, Func::Or, Value::Null, Value::Bool(true))?;
-    assert_eq!(rt; or, Value::Bool(true));
-    let and = two(alloc, Func::And, Value::Bool(false), Value::Int(5))?;
-    assert_eq!(rt; and, Value::Bool(false));
-    assert_eq!(rt; one(alloc, Func::Not, Value::Int(0))?, Value::Null);
-    let chosen = three(alloc, Func::If, Value::Null, Value::Int(1), Value::Int(2))?;
-    assert_eq!(rt; chosen, Value::Int(2));
-    assert_eq!(rt; one(alloc, Func::IsNull, Value::Null)?, Value::Bool(true));
-    let first = two(alloc, Func::Coalesce, Value::Null, Value::Int(2))?;
-    assert_eq!(rt; first, Value::Int(2));
-    Ok(())
-}
-
-#[test]
-fn texts(rt: HostRuntime) -> Result<(), Fail> {
-    let alloc = rt.alloc();
-    let whole = two(alloc, Func::Concat, text(alloc, "a")?, text(alloc, "ñb")?)?;
-    assert_eq!(rt; whole, text(alloc, "añb")?);
     let half = String::from_utf8(vec![in alloc; b'x'; 16001]?)
         .ok()
         .ok_or("no text")?;
-    let long = two(
-        alloc,
-        Func::Concat,
-        text(alloc, half.as_str())?,
-        text(alloc, half.as_str())?,
-    )?;
-    assert_eq!(rt; long, Value::Null);
-    assert_eq!(rt;
-        one(alloc, Func::Length, text(alloc, "añb")?)?,
-        Value::Int(3)
-    );
-    for (whole, start, count, want) in [("añb", 1, 1, "ñ"), ("abc", 2, 9, "c"), ("abc", 7, 1, "")] {
-        let cut = three(
-            alloc,
-            Func::Substr,
-            text(alloc, whole)?,
-            Value::Int(start),
-            Value::Int(count),
-        )?;
-        assert_eq!(rt; cut, text(alloc, want)?);
-    }
-    let before = three(
-        alloc,
-        Func::Substr,
-        text(alloc, "abc")?,
-        Value::Int(-1),
-        Value::Int(2),
-    )?;
-    assert_eq!(rt; before, Value::Null);
-    let lower = one(alloc, Func::LowerAscii, text(alloc, "AÑz")?)?;
-    assert_eq!(rt; lower, text(alloc, "aÑz")?);
+    let halves = [text(alloc, half.as_str())?, text(alloc, half.as_str())?];
+    assert_eq!(rt; applied(alloc, Func::Concat, &halves)?, Value::Null);
     Ok(())
 }
 
+/// What `split` makes of a text and a separator.
+fn pieces(alloc: Global, whole: &str, separator: &str) -> Result<List<Value>, Fail> {
+    let whole = value(alloc, whole)?;
+    Ok(split_items(alloc, &whole, &value(alloc, separator)?)?)
+}
+
 #[test]
-fn generators(rt: HostRuntime) -> Result<(), Fail> {
+fn splits(rt: HostRuntime) -> Result<(), Fail> {
     let alloc = rt.alloc();
-    let small = range_items(alloc, &Value::Int(1), &Value::Int(3))?;
+    for (whole, separator, wanted) in [("Ann", "n", "A,,"), ("Ann", "", "Ann")] {
+        let pieces = pieces(alloc, whole, separator)?;
+        assert_eq!(rt; pieces.as_slice(), values(alloc, wanted)?.as_slice());
+    }
+    assert!(rt; pieces(alloc, "1", "n")?.is_empty());
+    Ok(())
+}
+
+fn range(alloc: Global, from: i64, to: i64) -> Result<List<Value>, Fail> {
+    Ok(range_items(alloc, &Value::Int(from), &Value::Int(to))?)
+}
+
+#[test]
+fn ranges(rt: HostRuntime) -> Result<(), Fail> {
+    let alloc = rt.alloc();
     assert_eq!(rt;
-        small.as_slice(),
-        [Value::Int(1), Value::Int(2), Value::Int(3)].as_slice()
+        range(alloc, 1, 3)?.as_slice(),
+        values(alloc, "1,2,3")?.as_slice()
     );
-    assert_eq!(rt;
-        range_items(alloc, &Value::Int(1), &Value::Int(10_000))?.len(),
-        10_000
-    );
-    assert!(rt; range_items(alloc, &Value::Int(0), &Value::Int(10_000))?.is_empty());
-    assert!(rt; range_items(alloc, &Value::Int(i64::MIN), &Value::Int(i64::MAX))?.is_empty());
-    let pieces = split_items(alloc, &text(alloc, "Ann")?, &text(alloc, "n")?)?;
-    let want = [text(alloc, "A")?, text(alloc, "")?, text(alloc, "")?];
-    assert_eq!(rt; pieces.as_slice(), want.as_slice());
-    let whole = split_items(alloc, &text(alloc, "Ann")?, &text(alloc, "")?)?;
-    assert_eq!(rt; whole.as_slice(), [text(alloc, "Ann")?].as_slice());
-    assert!(rt; split_items(alloc, &Value::Int(1), &text(alloc, "n")?)?.is_empty());
+    for (from, to, count) in [(1, 10_000, 10_000), (0, 10_000, 0), (i64::MIN, i64::MAX, 0)] {
+        assert_eq!(rt; range(alloc, from, to)?.len(), count);
+    }
     Ok(())
 }
 
@@ -166,7 +141,6 @@ fn sum(alloc: Global) -> Result<Rex, Fail>
 #[test]
 fn expressions(rt: HostRuntime) -> Result<(), Fail> {
     let alloc = rt.alloc();
-    assert_eq!(rt; arity(Func::Substr), 3);
     let sum = sum(alloc)?;
     let row = [Value::Null, Value::Int(2)];
     assert_eq!(rt; sum.copy(alloc)?, sum);

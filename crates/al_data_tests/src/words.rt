@@ -54,91 +54,65 @@ fn is_step(alloc: Global, line: &str, wanted: Settings, printed: &str) -> Result
     Ok(plan.as_str() == "p" && settings == wanted && text.as_str() == printed)
 }
 
+const REFUSED: [&str; 44] = [
+    // Words.
+    "step",
+    "step p --memory 2",
+    "check p --workers 2",
+    "--help",
+    "",
+    " p",
+    "chec p",
+    "check p q",
+    "check -p",
+    "plain -5",
+    "check p -- --",
+    "gen 7 0 p q",
+    // Numbers.
+    "gen 7",
+    "gen 7 ",
+    "gen +7 0",
+    "gen 4294967296 0",
+    "gen 00000000007 0",
+    "gen 7 1000001",
+    "step p --partitions 17",
+    "step p --partitions=0",
+    "step p --frame-size 255",
+    "step p --frame-size=65537",
+    "step p --memory 1025",
+    "run p --workers 17",
+    // Options.
+    "step p --memory 4 --memory=4",
+    "step p --memory -5",
+    "step p --memory -",
+    "step p --memory",
+    "step p --memory --",
+    "step p --mem 4",
+    "step p --workers 2",
+    "run p --schedule 1",
+    "explain p --memory 3",
+    "drill 7 200 p --workers 2",
+    // Schedules.
+    "step p --schedule=",
+    "step p --schedule /",
+    "step p --schedule //",
+    "step p --schedule 1,",
+    "step p --schedule ,1",
+    "step p --schedule 1,,2",
+    "step p --schedule 1/,",
+    "step p --schedule 4294967296",
+    "step p --schedule=-1",
+    "step p --schedule a",
+];
+
 #[test]
 fn refuses_words(rt: HostRuntime) -> Result<(), Fail> {
     let alloc = rt.alloc();
-    for line in [
-        "step",
-        "step p --memory 2",
-        "check p --workers 2",
-        "--help",
-        "",
-        " p",
-        "chec p",
-        "check p q",
-        "check -p",
-        "plain -5",
-        "check p -- --",
-        "gen 7 0 p q",
-    ] {
-        assert!(rt; is_refused(alloc, line)?);
+    for line in REFUSED {
+        assert!(rt; is_refused(alloc, line)?, "{line}");
     }
     let none: Vec<String> = Vec::new(alloc);
-    match read_words(alloc, none.as_slice()) {
-        Err(WordsFault::Usage) => Ok(()),
-        _ => Err(Fail::from("no words")),
-    }
-}
-
-#[test]
-fn refuses_numbers(rt: HostRuntime) -> Result<(), Fail> {
-    let alloc = rt.alloc();
-    for line in [
-        "gen 7",
-        "gen 7 ",
-        "gen +7 0",
-        "gen 4294967296 0",
-        "gen 00000000007 0",
-        "gen 7 1000001",
-        "step p --partitions 17",
-        "step p --partitions=0",
-        "step p --frame-size 255",
-        "step p --frame-size=65537",
-        "step p --memory 1025",
-        "run p --workers 17",
-    ] {
-        assert!(rt; is_refused(alloc, line)?);
-    }
-    Ok(())
-}
-
-#[test]
-fn refuses_options(rt: HostRuntime) -> Result<(), Fail> {
-    let alloc = rt.alloc();
-    for line in [
-        "step p --memory 4 --memory=4",
-        "step p --memory -5",
-        "step p --memory -",
-        "step p --memory",
-        "step p --memory --",
-        "step p --mem 4",
-        "step p --workers 2",
-        "run p --schedule 1",
-        "explain p --memory 3",
-        "drill 7 200 p --workers 2",
-    ] {
-        assert!(rt; is_refused(alloc, line)?);
-    }
-    Ok(())
-}
-
-#[test]
-fn refuses_schedules(rt: HostRuntime) -> Result<(), Fail> {
-    let alloc = rt.alloc();
-    for line in [
-        "step p --schedule=",
-        "step p --schedule /",
-        "step p --schedule //",
-        "step p --schedule 1,",
-        "step p --schedule ,1",
-        "step p --schedule 1,,2",
-        "step p --schedule 1/,",
-        "step p --schedule 4294967296",
-        "step p --schedule=-1",
-        "step p --schedule a",
-    ] {
-        assert!(rt; is_refused(alloc, line)?);
-    }
+    assert!(rt; matches!(read_words(alloc, none.as_slice()), Err(WordsFault::Usage)));
     Ok(())
 }
 

@@ -13,6 +13,3 @@ mod walk;
 
 pub use answer::{AcceptRefused, Accepted, accept, refusal};
 pub use laws::acceptance_laws;
-
-#[cfg(test)]
-mod tests;

@@ -15,6 +15,3 @@ mod run;
 
 pub use plan::{Data, PlainFault};
 pub use run::evaluate;
-
-#[cfg(test)]
-mod tests;

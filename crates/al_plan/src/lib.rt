@@ -15,6 +15,3 @@ pub use gather::uses;
 pub use laws::plan_laws;
 pub use plan::{AggCall, Generator, OrderKey, Plan};
 pub use variables::{joined_vars, live, live_over, ordered};
-
-#[cfg(test)]
-mod tests;

@@ -17,6 +17,3 @@ pub use job::print_job;
 pub use laws::printing_laws;
 pub use phys::print_phys;
 pub use trace::print_trace;
-
-#[cfg(test)]
-mod tests;

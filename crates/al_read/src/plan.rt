@@ -49,6 +49,3 @@ pub fn read_plan(alloc: Global, bytes: &[u8]) -> Result<PlanFile, ReadRefused>
         Err(TokensRefused::NoMemory) => Err(ReadRefused::NoMemory),
     }
 }
-
-#[cfg(test)]
-mod tests;

@@ -76,6 +76,3 @@ pub fn read_tokens(alloc: Global, bytes: &[u8]) -> Result<List<Placed>, TokensRe
 pub fn one_reading()
     ensures { (bytes : Listed ℕ) → HasOneReading bytes }
 {}
-
-#[cfg(test)]
-mod tests;

@@ -1,3 +1,2 @@
 pub mod DistinctLaws
 pub mod Finding
-pub mod BareLaws

@@ -11,4 +11,3 @@ pub mod Widening
 pub mod GroupSound
 pub mod Falls
 pub mod GroupSet
-pub mod Bare

@@ -12,6 +12,3 @@ pub use distinct::has_distinct;
 pub use distincts::{DistinctOverAggregate, DistinctOverDistinct, DistinctOverGroup};
 pub use projects::{AggregateOverProject, GroupOverProject};
 pub use set::GroupSet;
-
-#[cfg(test)]
-mod tests;

@@ -12,6 +12,3 @@ pub use drop_true::DropTrue;
 pub use left_join::LeftJoinToJoin;
 pub use push::{JoinCondLeft, JoinCondRight, LeftJoinCondRight};
 pub use set::JoinSet;
-
-#[cfg(test)]
-mod tests;

@@ -9,4 +9,3 @@ pub mod OrderSound
 pub mod LimitSound
 pub mod Falls
 pub mod Shown
-pub mod Bare

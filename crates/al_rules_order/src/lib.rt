@@ -9,6 +9,3 @@ mod set;
 pub use limits::{LimitBelowAssign, LimitBelowProject, LimitOverLimit};
 pub use orders::{DropOrder, OrderOverOrder};
 pub use set::OrderSet;
-
-#[cfg(test)]
-mod tests;

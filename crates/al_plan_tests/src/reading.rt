@@ -1,7 +1,8 @@
-use super::{ReadRefused, one_plan_reading, read_plan};
+use crate::texts::read;
 use al_csv::{Column, Decl, Kind};
 use al_func::Func;
 use al_plan::{Expr, OrderKey, Plan, PlanFile, Refused, RefusedKind, Var};
+use al_read::{ReadRefused, one_plan_reading, read_plan};
 use al_value::{Boxed, List, Name, NoMemory, Value};
 use std::alloc::Global;
 use std::process::Abort;
@@ -230,38 +231,63 @@ fn refuses_at_the_first_wrong_token(rt: HostRuntime) -> Result<(), Fail> {
 #[test]
 fn reads_the_least_int(rt: HostRuntime) -> Result<(), Fail> {
     let text = b"(algebricks 1 (result ($a) (select -9223372036854775808 (empty))))";
-    assert_eq!(&rt; read_plan(rt.alloc(), text)?.places.len(), 3);
+    assert_eq!(&rt; operators(rt.alloc(), text)?, 3);
     Ok(())
 }
 
+const FRONT: &[u8; 35] = b"(algebricks 1 (result ($a) (select ";
+
 #[test]
 fn refuses_what_opens_too_deep(rt: HostRuntime) -> Result<(), Fail> {
+    // Three parentheses are open behind the front, and one more behind each piece. The last text
+    // couldn't go on so either.
+    let rows: [(usize, &[u8], RefusedKind, u32); 3] = [
+        (97, b"", RefusedKind::Form, 520),
+        (98, b"", RefusedKind::TooDeep, 520),
+        (96, b"((", RefusedKind::TooDeep, 516),
+    ];
+    for (times, back, kind, place) in rows {
+        let text = repeated(rt.alloc(), FRONT, b"(not ", times, back)?;
+        assert_refused(&rt, read_plan(rt.alloc(), &text), kind, place)?;
+    }
+    Ok(())
+}
+
+/// How many operators the plan of a text has.
+fn operators(alloc: Global, text: &[u8]) -> Result<usize, Fail> {
+    let file = read(alloc, text)?;
+    Ok(file.get().places.len())
+}
+
+#[test]
+fn reads_what_opens_so_deep(rt: HostRuntime) -> Result<(), Fail> {
     let alloc = rt.alloc();
-    let front = b"(algebricks 1 (result ($a) (select ";
-    // Three parentheses are open behind the front, and one more behind each piece.
-    let full = repeated(alloc, front, b"(not ", 97, b"")?;
-    assert_refused(&rt, read_plan(alloc, &full), RefusedKind::Form, 520)?;
-    let deep = repeated(alloc, front, b"(not ", 98, b"")?;
-    assert_refused(&rt, read_plan(alloc, &deep), RefusedKind::TooDeep, 520)?;
-    // Where it couldn't stand either.
-    let misplaced = repeated(alloc, front, b"(not ", 96, b"((")?;
-    assert_refused(&rt, read_plan(alloc, &misplaced), RefusedKind::TooDeep, 516)?;
-    let depth = repeated(alloc, front, b"(not ", 97, b"null")?;
+    let depth = repeated(alloc, FRONT, b"(not ", 97, b"null")?;
     let whole = repeated(alloc, &depth, b")", 97, b" (empty))))")?;
-    assert_eq!(&rt; read_plan(alloc, &whole)?.places.len(), 3);
+    assert_eq!(&rt; operators(alloc, &whole)?, 3);
+    Ok(())
+}
+
+/// The text of a result over 63 joins, with this piece innermost.
+fn joins(alloc: Global, inner: &[u8]) -> Result<Vec<u8>, Fail> {
+    // One operator in front, and four in each piece.
+    let piece = b"(join true (distinct (distinct (empty))) ";
+    repeated(alloc, b"(algebricks 1 (result ($a) ", piece, 63, inner)
+}
+
+#[test]
+fn reads_256_operators(rt: HostRuntime) -> Result<(), Fail> {
+    let alloc = rt.alloc();
+    let most = joins(alloc, b"(distinct (distinct (empty)))")?;
+    let most = repeated(alloc, &most, b")", 65, b"")?;
+    assert_eq!(&rt; operators(alloc, &most)?, 256);
     Ok(())
 }
 
 #[test]
 fn refuses_what_is_too_large(rt: HostRuntime) -> Result<(), Fail> {
     let alloc = rt.alloc();
-    let front = b"(algebricks 1 (result ($a) ";
-    // One operator in front, and four in each piece.
-    let piece = b"(join true (distinct (distinct (empty))) ";
-    let most = repeated(alloc, front, piece, 63, b"(distinct (distinct (empty)))")?;
-    let most = repeated(alloc, &most, b")", 65, b"")?;
-    assert_eq!(&rt; read_plan(alloc, &most)?.places.len(), 256);
-    let over = repeated(alloc, front, piece, 63, b"(distinct (distinct (distinct (")?;
+    let over = joins(alloc, b"(distinct (distinct (distinct (")?;
     assert_refused(&rt, read_plan(alloc, &over), RefusedKind::TooLarge, 2640)?;
     let long = repeated(alloc, b"", b" ", 1_048_577, b"")?;
     assert_refused(

@@ -1,4 +1,4 @@
-use crate::{
+use al_conj::{
     LiteralTrue, all_of, both, conjunct_laws, conjuncts, has_conjunct, is_and, take_first,
 };
 use al_plan::Expr;

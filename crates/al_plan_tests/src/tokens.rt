@@ -1,4 +1,4 @@
-use super::{MAX_PLAN, Placed, Token, TokensRefused, one_reading, read_tokens};
+use al_read::{MAX_PLAN, Placed, Token, TokensRefused, one_reading, read_tokens};
 use al_value::List;
 use std::alloc::Global;
 use std::process::Abort;

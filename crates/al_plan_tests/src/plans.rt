@@ -1,5 +1,6 @@
-use crate::{Expr, Plan, Var, live, ordered, plan_laws, uses};
+use al_cases::worked_cases;
 use al_func::Func;
+use al_plan::{Expr, Plan, Var, live, ordered, plan_laws, uses};
 use al_value::{List, Name, NoMemory, Text, Value};
 use std::alloc::Global;
 use std::test::Fail;
@@ -39,7 +40,6 @@ fn names_each_variable_once(rt: HostRuntime) -> Result<(), Fail> {
     Ok(())
 }
 
-// Larger plans are read from text, in the tests of the crate at the top.
 #[test]
 fn tells_of_the_empty_plan(rt: HostRuntime) -> Result<(), Fail> {
     assert!(rt; live(rt.alloc(), &Plan::Empty)?.is_empty());
@@ -48,7 +48,7 @@ fn tells_of_the_empty_plan(rt: HostRuntime) -> Result<(), Fail> {
 }
 
 #[test]
-fn calls_the_laws(_rt: HostRuntime) -> Result<(), Fail> {
+fn calls_the_laws() {
     plan_laws();
-    Ok(())
+    worked_cases();
 }

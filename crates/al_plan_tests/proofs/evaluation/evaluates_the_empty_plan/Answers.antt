@@ -1,7 +1,7 @@
 use Rattle.std.proofs.Common.{false, [], refl, sym, subst}
 use Rattle.al_plan.specs.Refines.{NoTwice}
 use Rattle.al_plan.proofs.PlanLaws.{each-Empty, narrow-Empty, makes-Empty}
-use Rattle.al_plain.proofs.tests.evaluates_a_plan_that_fits.Goals as goal
+use Rattle.al_plan_tests.proofs.evaluation.evaluates_the_empty_plan.Goals as goal
 
 pub evaluate-requires-clause-fit : goal.evaluate-requires-clause-fit
 evaluate-requires-clause-fit g c = record {
