@@ -1,5 +1,8 @@
 -- What small activities make, what tasks may put, and what they may not.
-use Rattle.std.specs.Prelude.{◌≡◌, ◌⊎◌, ◌↔◌, ℕ, nat_eq, Bool, true, false, if◌then◌else◌, List, [], ◌∷◌, ◌++◌, map}
+use Rattle.std.specs.Prelude.{pos, ◌^◌, ◌≡◌, ◌⊎◌, ◌↔◌, ℕ, nat_eq, Bool, true, false, if◌then◌else◌, List, [], ◌∷◌, ◌++◌, map}
+use Rattle.al_value.specs.declared.value.Value.TheVariants as V
+use Rattle.al_func.specs.declared.func.Func.TheVariants as F
+use Rattle.al_func.specs.declared.rex.Rex.{Rex}
 use Rattle.al_func.specs.declared.rex.Rex.TheVariants as R
 use Rattle.hy_job.specs.declared.nested.AggRex.TheVariants as C
 use Rattle.hy_job.specs.declared.nested.NestedPlan.{NestedPlan}
@@ -143,6 +146,23 @@ counting_none = record {
 -- so its row may be put although its sender is open: no row with a value comes
 abbrev pub RowsComeFitting : Type 0
 RowsComeFitting = TaskPart counting_none (act 1 (K.AggPart (C.Count (R.Col 0) ∷ [])) 2) 0 none_ended (took_first []) (record { to = λ r. state_row (C.Count (R.Col 0) ∷ []) [] ∷ []; on = [] })
+
+-- whether the first column is an int past those of 64 bits, which no value is
+abbrev pub too_large : Rex
+too_large = R.Call F.Le (R.Lit (V.Int (pos (2 ^ 63))) ∷ R.Col 0 ∷ [])
+
+-- on one partition, the greatest of these truths
+abbrev pub telling : List ℕ → Job
+telling set = record {
+  activities = act 0 (K.Scan set) 1 ∷ act 1 (K.AggPart (C.Max too_large ∷ [])) 1 ∷ act 2 (K.Result (0 ∷ [])) 1 ∷ [];
+  edges = wire 0 1 W.OneToOne ∷ wire 1 2 W.OneToOne ∷ [];
+  blocks = [];
+  partitions = 1;
+}
+
+-- it is FALSE from the first int on, so the row may be put although its sender is open: nothing but values comes
+abbrev pub ValuesCome : Type 0
+ValuesCome = (set : List ℕ) → TaskPart (telling set) (act 1 (K.AggPart (C.Max too_large ∷ [])) 1) 0 none_ended (took_first (row_of 0 ∷ [])) (record { to = λ r. (V.Bool false ∷ []) ∷ []; on = [] })
 
 -- ---- drivers on their way
 

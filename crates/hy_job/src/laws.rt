@@ -3,7 +3,7 @@ ghost use Rattle.hy_job.specs.Boxes.{BoxesAreReached, BoxesHaveOrigins, OriginsA
 ghost use Rattle.hy_job.specs.Cases.{BlockIsNeeded, BuildComesFirst, GroupingIsSound, JoiningHasFourStages, JoiningIsSound, NullHasNoPartner, ReadingIsSound, SortingHasTwoStages, SortingIsSound, StatesAreJoined, StatesHaveFields};
 ghost use Rattle.hy_job.specs.Drivers.{DriversMove, NewDriversGive};
 ghost use Rattle.hy_job.specs.Exchange.{WiresExchange};
-ghost use Rattle.hy_job.specs.RunCases.{CheckPasses, EmitsWhatIsLeft, FailedSoFar, FirstGathers, HashHasTwoBoxes, InputsApart, LastRowOnce, LimitGoesOn, LimitSkips, LiveSoFar, MergeHasTwoBoxes, NoneOfNone, PartIsFront, RaisedInStage, RowEndsPart, RowsComeFitting, ScanIsDealt, StretchesHaveRows, ThirdTask, UnionHasBoth, WordsEnd, WordsMay};
+ghost use Rattle.hy_job.specs.RunCases.{CheckPasses, EmitsWhatIsLeft, FailedSoFar, FirstGathers, HashHasTwoBoxes, InputsApart, LastRowOnce, LimitGoesOn, LimitSkips, LiveSoFar, MergeHasTwoBoxes, NoneOfNone, PartIsFront, RaisedInStage, RowEndsPart, RowsComeFitting, ScanIsDealt, StretchesHaveRows, ThirdTask, UnionHasBoth, ValuesCome, WordsEnd, WordsMay};
 ghost use Rattle.hy_job.specs.RunLaws.{ProbesMove, RunsFit, RunsHaveValues};
 ghost use Rattle.hy_job.specs.Runs.{FreeOutputs};
 ghost use Rattle.hy_job.specs.Settled.{FailsAtLast, PassesAtLast, SettledIsSent, StopsByFaults};
@@ -123,6 +123,7 @@ pub fn run_cases()
     ensures part_is_front { PartIsFront }
     ensures row_ends_part { RowEndsPart }
     ensures rows_come_fitting { RowsComeFitting }
+    ensures values_come { ValuesCome }
     ensures received { InputsApart }
     ensures limit_goes_on { LimitGoesOn }
     ensures emits_what_is_left { EmitsWhatIsLeft }

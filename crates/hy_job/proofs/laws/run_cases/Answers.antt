@@ -1,6 +1,7 @@
 use Rattle.hy_job.proofs.RunCases.{limit_skips, union_has_both, scan_is_dealt, stretches_have_rows, none_of_none, words_end, words_may, first_gathers, raised_in_stage, hash_boxes, merge_boxes, third_task}
 use Rattle.hy_job.proofs.PartCases.{check_passes, part_is_front, row_ends_part, rows_come_fitting}
 use Rattle.hy_job.proofs.WayCases.{received, limit_goes_on, emits_what_is_left, last_row, failed_so_far, live_so_far}
+use Rattle.hy_job.proofs.ValueCases.{values_come}
 use Rattle.hy_job.proofs.laws.run_cases.Goals as goal
 
 pub returns-clause-limit_skips : goal.returns-clause-limit_skips
@@ -68,3 +69,6 @@ returns-clause-live_so_far c = live_so_far
 
 pub returns-clause-rows_come_fitting : goal.returns-clause-rows_come_fitting
 returns-clause-rows_come_fitting c = rows_come_fitting
+
+pub returns-clause-values_come : goal.returns-clause-values_come
+returns-clause-values_come c = values_come
