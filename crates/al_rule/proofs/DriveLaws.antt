@@ -8,7 +8,7 @@ use Rattle.al_rule.specs.declared.trace.Trace.{Trace}
 use Rattle.al_rule.specs.Places.{Applied}
 use Rattle.al_rule.specs.Rules.{Rules, IsLocal, IsLawful}
 use Rattle.al_rule.specs.Driven.{IsStep, Steps, Drove}
-use Rattle.al_rule.specs.Walks.{NoneBefore, IsNext, Records, StepsTo}
+use Rattle.al_rule.specs.Walks.{NoneBefore, IsNext, StepsTo}
 use Rattle.al_rule.proofs.PlaceLaws.{applied_replaces}
 use Rattle.al_rule.proofs.WalkLaws.{none_at_root, still_none}
 
