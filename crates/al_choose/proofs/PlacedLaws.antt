@@ -1,5 +1,5 @@
 -- The chosen plan is placed.
-use Rattle.std.proofs.Common.{◌≡◌, ◌≢◌, ◌<◌, ◌^◌, ◌-◌, ℕ, Bool, true, false, List, [], ◌∷◌, ◌++◌, map, length, inl, inr, refl, ap, sym, subst, ◌∙◌, None, arith}
+use Rattle.std.proofs.Common.{◌≡◌, ◌≢◌, ◌<◌, ◌^◌, ◌-◌, ℕ, Bool, true, false, List, [], ◌∷◌, ◌++◌, map, length, inl, inr, refl, sym, subst, ◌∙◌, arith}
 use Rattle.std.specs.Prelude.{◌+◌, if◌then◌else◌}
 use Rattle.std.specs.List.{AllByRecursion}
 use Rattle.al_plan.specs.declared.expr.Var.{Var}
@@ -10,7 +10,7 @@ use Rattle.al_plan.specs.declared.plan.Plan.{Plan, map-Plan, roll-Plan, ind-Plan
 use Rattle.al_plan.specs.declared.plan.Plan.TheOpen as L
 use Rattle.al_plan.specs.Names.{agg_exprs, item_exprs}
 use Rattle.al_plan.specs.Allows.{live, live_step}
-use Rattle.al_plan.specs.Refines.{Fit, FitsEach, InputFits, Narrow, IsOver, AreOver, AreLive, NoTwice, AtMost64, is_aggregate, result_of, makes}
+use Rattle.al_plan.specs.Refines.{Fit, FitsEach, InputFits, Narrow, IsOver, AreOver, AreLive, NoTwice, AtMost64}
 use Rattle.al_plan.proofs.PlanLaws.{EachLayer, each-roll, NarrowLayer, narrow-roll}
 use Rattle.al_plan.proofs.Mono.{live_is}
 use Rattle.al_phys.specs.declared.property.Need.{Need}
@@ -19,18 +19,17 @@ use Rattle.al_phys.specs.declared.phys.JoinForm.{JoinForm}
 use Rattle.al_phys.specs.declared.phys.Phys.{Phys}
 use Rattle.al_phys.specs.declared.phys.Phys.TheVariants as Q
 use Rattle.al_phys.specs.Gives.{is_hash}
-use Rattle.al_phys.specs.Operators.{phys_live, phys_makes, operators, is_exchange}
+use Rattle.al_phys.specs.Operators.{phys_live, operators, is_exchange}
 use Rattle.al_phys.specs.Properties.{meets, parts_of, order_of, join_need, equi_keys, old_of}
-use Rattle.al_phys.specs.Placed.{IsLaid, IsServed, IsInner, IsGroupInput, Placed, is_grouped, is_row_wise, ascending, vars_of}
+use Rattle.al_phys.specs.Placed.{IsLaid, IsServed, IsInner, Placed, is_grouped, is_row_wise, ascending, vars_of}
 use Rattle.al_phys.proofs.OperatorLaws.{poperators-Scan, poperators-One, poperators-Assign, poperators-Select, poperators-Project, poperators-Unnest, poperators-Subplan, poperators-Check, poperators-Join, poperators-HashGroup, poperators-PreGroup, poperators-HashDistinct, poperators-AggPart, poperators-AggFinal, poperators-Union, poperators-Sort, poperators-Limit, poperators-LocalLimit, poperators-Result, poperators-Merge}
 use Rattle.al_phys.proofs.OperatorLaws.{plive-AggPart, plive-Sort, plive-LocalLimit, plive-Merge, presult-LocalLimit}
 use Rattle.al_phys.proofs.PropertyLaws.{laid-Scan, laid-One, laid-Assign, laid-Select, laid-Project, laid-Unnest, laid-Subplan, laid-Check, laid-Join, laid-HashGroup, laid-PreGroup, laid-HashDistinct, laid-AggPart, laid-AggFinal, laid-Union, laid-Sort, laid-Limit, laid-LocalLimit, laid-Result, laid-Merge, whole-LocalLimit, spread-LocalLimit}
 use Rattle.al_phys.proofs.OverLaws.{left_keys_live}
 use Rattle.al_choose.specs.Chosen.{chosen, served, join_form, join_as, join_over, group_over, merge_over, limit_over, is_rank}
 use Rattle.al_choose.proofs.ChosenLaws.{ChosenLayer, chosen-roll}
-use Rattle.al_choose.proofs.ServedOf.{of_both}
 use Rattle.al_choose.proofs.LiveOf.{served_live, chosen_live, chosen_makes, chosen_result}
-use Rattle.al_choose.proofs.PlacedRoots.{Once, into, once, whole, any_alone, met_same}
+use Rattle.al_choose.proofs.PlacedRoots.{into, once, whole, any_alone, met_same}
 use Rattle.al_choose.proofs.PlacedKeys.{right_keys_live}
 use Rattle.al_choose.proofs.PlacedInputs.{Ready, any_met, by_exchange, is_served, Sound, AllSound, all_over, all_over_two, all_alone, NeedsLive, live_itself, gathered, served_sound}
 

@@ -1,9 +1,7 @@
 -- The equi keys of each expression.
-use Rattle.std.proofs.Common.{◌≡◌, ◌≢◌, ℕ, List, [], ◌∷◌, ◌++◌, map, length, filter_map, flat_map, refl, ap, sym, subst, ◌∙◌, append-nil, append_assoc, arith, ◌<◌, ◌+◌, take, get_or}
+use Rattle.std.proofs.Common.{◌≡◌, ◌≢◌, List, [], ◌∷◌, ◌++◌, map, length, filter_map, flat_map, refl, ap, sym, subst, ◌∙◌, append-nil, arith, ◌+◌}
 use Rattle.std.specs.List.{cons_option}
 use Rattle.std.proofs.lemmas.List.Elements.{filter_map-append}
-use Rattle.std.proofs.lemmas.Grind.{flat_map-append}
-use Rattle.std.proofs.lemmas.List.{take_more}
 use Rattle.al_value.specs.declared.value.Value.{Value}
 use Rattle.al_func.specs.declared.func.Func.{Func}
 use Rattle.al_func.specs.declared.func.Func.TheVariants as F
@@ -119,12 +117,5 @@ module _ (ls rs : List Var) where
   equi-other F.If args no_and no_eq = alone F.If args refl
   equi-other F.IsNull args no_and no_eq = alone F.IsNull args refl
   equi-other F.Coalesce args no_and no_eq = alone F.Coalesce args refl
-
-  -- the keys of one argument more
-  pub equi_more : (keys all next : List (Var × Var)) (args : List Expr) (i : ℕ) (d : Expr) → i < length args → all ≡ keys ++ flat_map (equi_keys ls rs) (take i args)
-      → next ≡ all ++ equi_keys ls rs (get_or args i d) → next ≡ keys ++ flat_map (equi_keys ls rs) (take (i + 1) args)
-  equi_more keys all next args i d lt before here =
-      here ∙ ap (λ ks. ks ++ equi_keys ls rs (get_or args i d)) before ∙ append_assoc keys (flat_map (equi_keys ls rs) (take i args)) (equi_keys ls rs (get_or args i d))
-      ∙ ap (λ ks. keys ++ ks) (sym (ap (flat_map (equi_keys ls rs)) (take_more args i d lt) ∙ flat_map-append (equi_keys ls rs) (take i args) (get_or args i d ∷ []) ∙ ap (λ ks. flat_map (equi_keys ls rs) (take i args) ++ ks) (append-nil (equi_keys ls rs (get_or args i d)))))
 
 pub ruleset equi_laws = (equi-Var, equi-Lit, equi-Eq, equi-And, equi-And_other, equi-other, variable-Var, variable-Lit, variable-Call, append-nil)

@@ -62,10 +62,6 @@ module _ (vs : List Var) where
   follows-none [] = refl
   follows-none (r ∷ rows) = ([], [], refl, tt, follows-none rows)
 
-  pub follows-itself : (rows : List Env) → Follows vs rows rows
-  follows-itself [] = refl
-  follows-itself (r ∷ rows) = (r ∷ [], rows, refl, (refl, tt), follows-itself rows)
-
   pub follows-cut : (m k : ℕ) (rows : List Env) → Follows vs rows (take m (drop k rows))
   follows-cut zero zero rows = follows-none rows
   follows-cut (suc m) zero [] = refl

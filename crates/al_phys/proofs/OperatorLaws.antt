@@ -336,12 +336,6 @@ pscans-AggPart made p = ap phys_scans (sym (P.rolls-AggPart made p)) ∙ pscans-
 pub pmakes-AggPart : (made : List (Var × AggCall)) (p : Phys) → phys_makes (P.AggPart made p) ≡ makes_step (map-Phys Phys (List Var) phys_makes (L.AggPart made p))
 pmakes-AggPart made p = ap phys_makes (sym (P.rolls-AggPart made p)) ∙ pmakes-roll (L.AggPart made p)
 
-pub presult-AggPart : (made : List (Var × AggCall)) (p : Phys) → phys_result (P.AggPart made p) ≡ result_step (map-Phys Phys (Option (List Var)) phys_result (L.AggPart made p))
-presult-AggPart made p = ap phys_result (sym (P.rolls-AggPart made p)) ∙ presult-roll (L.AggPart made p)
-
-pub pexchange-AggPart : (made : List (Var × AggCall)) (p : Phys) → is_exchange (P.AggPart made p) ≡ exchange_step (map-Phys Phys (Bool) is_exchange (L.AggPart made p))
-pexchange-AggPart made p = ap is_exchange (sym (P.rolls-AggPart made p)) ∙ exchange-roll (L.AggPart made p)
-
 pub poperators-AggPart : (made : List (Var × AggCall)) (p : Phys) → operators (P.AggPart made p) ≡ (P.AggPart made p) ∷ operators p
 poperators-AggPart made p =
     ap operators (sym (P.rolls-AggPart made p)) ∙ operators-roll (L.AggPart made p) ∙ ap (λ (q : Phys). q ∷ operators p) (P.rolls-AggPart made p)
@@ -449,9 +443,6 @@ pmakes-LocalLimit m p = ap phys_makes (sym (P.rolls-LocalLimit m p)) ∙ pmakes-
 pub presult-LocalLimit : (m : ℕ) (p : Phys) → phys_result (P.LocalLimit m p) ≡ result_step (map-Phys Phys (Option (List Var)) phys_result (L.LocalLimit m p))
 presult-LocalLimit m p = ap phys_result (sym (P.rolls-LocalLimit m p)) ∙ presult-roll (L.LocalLimit m p)
 
-pub pexchange-LocalLimit : (m : ℕ) (p : Phys) → is_exchange (P.LocalLimit m p) ≡ exchange_step (map-Phys Phys (Bool) is_exchange (L.LocalLimit m p))
-pexchange-LocalLimit m p = ap is_exchange (sym (P.rolls-LocalLimit m p)) ∙ exchange-roll (L.LocalLimit m p)
-
 pub poperators-LocalLimit : (m : ℕ) (p : Phys) → operators (P.LocalLimit m p) ≡ (P.LocalLimit m p) ∷ operators p
 poperators-LocalLimit m p =
     ap operators (sym (P.rolls-LocalLimit m p)) ∙ operators-roll (L.LocalLimit m p) ∙ ap (λ (q : Phys). q ∷ operators p) (P.rolls-LocalLimit m p)
@@ -490,12 +481,6 @@ pscans-HashExchange vars p = ap phys_scans (sym (P.rolls-HashExchange vars p)) �
 pub pmakes-HashExchange : (vars : List Var) (p : Phys) → phys_makes (P.HashExchange vars p) ≡ makes_step (map-Phys Phys (List Var) phys_makes (L.HashExchange vars p))
 pmakes-HashExchange vars p = ap phys_makes (sym (P.rolls-HashExchange vars p)) ∙ pmakes-roll (L.HashExchange vars p)
 
-pub presult-HashExchange : (vars : List Var) (p : Phys) → phys_result (P.HashExchange vars p) ≡ result_step (map-Phys Phys (Option (List Var)) phys_result (L.HashExchange vars p))
-presult-HashExchange vars p = ap phys_result (sym (P.rolls-HashExchange vars p)) ∙ presult-roll (L.HashExchange vars p)
-
-pub pexchange-HashExchange : (vars : List Var) (p : Phys) → is_exchange (P.HashExchange vars p) ≡ exchange_step (map-Phys Phys (Bool) is_exchange (L.HashExchange vars p))
-pexchange-HashExchange vars p = ap is_exchange (sym (P.rolls-HashExchange vars p)) ∙ exchange-roll (L.HashExchange vars p)
-
 pub poperators-HashExchange : (vars : List Var) (p : Phys) → operators (P.HashExchange vars p) ≡ (P.HashExchange vars p) ∷ operators p
 poperators-HashExchange vars p =
     ap operators (sym (P.rolls-HashExchange vars p)) ∙ operators-roll (L.HashExchange vars p) ∙ ap (λ (q : Phys). q ∷ operators p) (P.rolls-HashExchange vars p)
@@ -512,12 +497,6 @@ pscans-Broadcast p = ap phys_scans (sym (P.rolls-Broadcast p)) ∙ pscans-roll (
 pub pmakes-Broadcast : (p : Phys) → phys_makes (P.Broadcast p) ≡ makes_step (map-Phys Phys (List Var) phys_makes (L.Broadcast p))
 pmakes-Broadcast p = ap phys_makes (sym (P.rolls-Broadcast p)) ∙ pmakes-roll (L.Broadcast p)
 
-pub presult-Broadcast : (p : Phys) → phys_result (P.Broadcast p) ≡ result_step (map-Phys Phys (Option (List Var)) phys_result (L.Broadcast p))
-presult-Broadcast p = ap phys_result (sym (P.rolls-Broadcast p)) ∙ presult-roll (L.Broadcast p)
-
-pub pexchange-Broadcast : (p : Phys) → is_exchange (P.Broadcast p) ≡ exchange_step (map-Phys Phys (Bool) is_exchange (L.Broadcast p))
-pexchange-Broadcast p = ap is_exchange (sym (P.rolls-Broadcast p)) ∙ exchange-roll (L.Broadcast p)
-
 pub poperators-Broadcast : (p : Phys) → operators (P.Broadcast p) ≡ (P.Broadcast p) ∷ operators p
 poperators-Broadcast p =
     ap operators (sym (P.rolls-Broadcast p)) ∙ operators-roll (L.Broadcast p) ∙ ap (λ (q : Phys). q ∷ operators p) (P.rolls-Broadcast p)
@@ -533,9 +512,6 @@ pscans-Gather p = ap phys_scans (sym (P.rolls-Gather p)) ∙ pscans-roll (L.Gath
 
 pub pmakes-Gather : (p : Phys) → phys_makes (P.Gather p) ≡ makes_step (map-Phys Phys (List Var) phys_makes (L.Gather p))
 pmakes-Gather p = ap phys_makes (sym (P.rolls-Gather p)) ∙ pmakes-roll (L.Gather p)
-
-pub presult-Gather : (p : Phys) → phys_result (P.Gather p) ≡ result_step (map-Phys Phys (Option (List Var)) phys_result (L.Gather p))
-presult-Gather p = ap phys_result (sym (P.rolls-Gather p)) ∙ presult-roll (L.Gather p)
 
 pub pexchange-Gather : (p : Phys) → is_exchange (P.Gather p) ≡ exchange_step (map-Phys Phys (Bool) is_exchange (L.Gather p))
 pexchange-Gather p = ap is_exchange (sym (P.rolls-Gather p)) ∙ exchange-roll (L.Gather p)

@@ -76,12 +76,6 @@ pallows-roll x = rec-roll-Phys PAllowing pallows_step natural x
 pub punroll : (x : L.Phys-F Phys) (b : Bool) (sets : Sets) (n : ℕ) (parts : Parts) → PAllows (roll-Phys x) b sets n parts → PLayer x b sets n parts
 punroll x b sets n parts h = subst (λ (a : PAllowing). a b sets n parts) (pallows-roll x) h
 
-pub penroll : (x : L.Phys-F Phys) (b : Bool) (sets : Sets) (n : ℕ) (parts : Parts) → PLayer x b sets n parts → PAllows (roll-Phys x) b sets n parts
-penroll x b sets n parts h = subst (λ (a : PAllowing). a b sets n parts) (sym (pallows-roll x)) h
-
-into : (x : L.Phys-F Phys) (p : Phys) → roll-Phys x ≡ p → (b : Bool) (sets : Sets) (n : ℕ) (parts : Parts) → PLayer x b sets n parts → PAllows p b sets n parts
-into x p e b sets n parts h = subst (λ (q : Phys). PAllows q b sets n parts) e (penroll x b sets n parts h)
-
 out : (x : L.Phys-F Phys) (p : Phys) → roll-Phys x ≡ p → (b : Bool) (sets : Sets) (n : ℕ) (parts : Parts) → PAllows p b sets n parts → PLayer x b sets n parts
 out x p e b sets n parts h = punroll x b sets n parts (subst (λ (q : Phys). PAllows q b sets n parts) (sym e) h)
 
@@ -92,17 +86,11 @@ pub pfaults-roll : (x : L.Phys-F Phys) → PFaults (roll-Phys x) ≡ PFaultLayer
 unfolding PFaults
 pfaults-roll x = rec-roll-Phys PFaulting pfaults_step natural_faults x
 
-pub pallows_Scan : (set : Bytes) (vars : List Var) (b : Bool) (sets : Sets) (n : ℕ) (parts : Parts) → PLayer (L.Scan set vars) b sets n parts → PAllows (P.Scan set vars) b sets n parts
-pallows_Scan set vars b sets n parts h = into (L.Scan set vars) _ (P.rolls-Scan set vars) b sets n parts h
-
 pub pfrom_Scan : (set : Bytes) (vars : List Var) (b : Bool) (sets : Sets) (n : ℕ) (parts : Parts) → PAllows (P.Scan set vars) b sets n parts → PLayer (L.Scan set vars) b sets n parts
 pfrom_Scan set vars b sets n parts h = out (L.Scan set vars) _ (P.rolls-Scan set vars) b sets n parts h
 
 pub pfaults-Scan : (set : Bytes) (vars : List Var) (sets : Sets) (n : ℕ) (what : Bytes) → PFaults (P.Scan set vars) sets n what ≡ PFaultLayer (L.Scan set vars) sets n what
 pfaults-Scan set vars sets n what = ap (λ (f : PFaulting). f sets n what) (ap PFaults (sym (P.rolls-Scan set vars)) ∙ pfaults-roll (L.Scan set vars))
-
-pub pallows_One : (b : Bool) (sets : Sets) (n : ℕ) (parts : Parts) → PLayer L.One b sets n parts → PAllows P.One b sets n parts
-pallows_One b sets n parts h = into L.One _ (P.rolls-One) b sets n parts h
 
 pub pfrom_One : (b : Bool) (sets : Sets) (n : ℕ) (parts : Parts) → PAllows P.One b sets n parts → PLayer L.One b sets n parts
 pfrom_One b sets n parts h = out L.One _ (P.rolls-One) b sets n parts h
@@ -110,17 +98,11 @@ pfrom_One b sets n parts h = out L.One _ (P.rolls-One) b sets n parts h
 pub pfaults-One : (sets : Sets) (n : ℕ) (what : Bytes) → PFaults P.One sets n what ≡ PFaultLayer L.One sets n what
 pfaults-One sets n what = ap (λ (f : PFaulting). f sets n what) (ap PFaults (sym (P.rolls-One)) ∙ pfaults-roll L.One)
 
-pub pallows_Assign : (made : List (Var × Expr)) (p : Phys) (b : Bool) (sets : Sets) (n : ℕ) (parts : Parts) → PLayer (L.Assign made p) b sets n parts → PAllows (P.Assign made p) b sets n parts
-pallows_Assign made p b sets n parts h = into (L.Assign made p) _ (P.rolls-Assign made p) b sets n parts h
-
 pub pfrom_Assign : (made : List (Var × Expr)) (p : Phys) (b : Bool) (sets : Sets) (n : ℕ) (parts : Parts) → PAllows (P.Assign made p) b sets n parts → PLayer (L.Assign made p) b sets n parts
 pfrom_Assign made p b sets n parts h = out (L.Assign made p) _ (P.rolls-Assign made p) b sets n parts h
 
 pub pfaults-Assign : (made : List (Var × Expr)) (p : Phys) (sets : Sets) (n : ℕ) (what : Bytes) → PFaults (P.Assign made p) sets n what ≡ PFaultLayer (L.Assign made p) sets n what
 pfaults-Assign made p sets n what = ap (λ (f : PFaulting). f sets n what) (ap PFaults (sym (P.rolls-Assign made p)) ∙ pfaults-roll (L.Assign made p))
-
-pub pallows_Select : (c : Expr) (p : Phys) (b : Bool) (sets : Sets) (n : ℕ) (parts : Parts) → PLayer (L.Select c p) b sets n parts → PAllows (P.Select c p) b sets n parts
-pallows_Select c p b sets n parts h = into (L.Select c p) _ (P.rolls-Select c p) b sets n parts h
 
 pub pfrom_Select : (c : Expr) (p : Phys) (b : Bool) (sets : Sets) (n : ℕ) (parts : Parts) → PAllows (P.Select c p) b sets n parts → PLayer (L.Select c p) b sets n parts
 pfrom_Select c p b sets n parts h = out (L.Select c p) _ (P.rolls-Select c p) b sets n parts h
@@ -128,17 +110,11 @@ pfrom_Select c p b sets n parts h = out (L.Select c p) _ (P.rolls-Select c p) b 
 pub pfaults-Select : (c : Expr) (p : Phys) (sets : Sets) (n : ℕ) (what : Bytes) → PFaults (P.Select c p) sets n what ≡ PFaultLayer (L.Select c p) sets n what
 pfaults-Select c p sets n what = ap (λ (f : PFaulting). f sets n what) (ap PFaults (sym (P.rolls-Select c p)) ∙ pfaults-roll (L.Select c p))
 
-pub pallows_Project : (vars : List Var) (p : Phys) (b : Bool) (sets : Sets) (n : ℕ) (parts : Parts) → PLayer (L.Project vars p) b sets n parts → PAllows (P.Project vars p) b sets n parts
-pallows_Project vars p b sets n parts h = into (L.Project vars p) _ (P.rolls-Project vars p) b sets n parts h
-
 pub pfrom_Project : (vars : List Var) (p : Phys) (b : Bool) (sets : Sets) (n : ℕ) (parts : Parts) → PAllows (P.Project vars p) b sets n parts → PLayer (L.Project vars p) b sets n parts
 pfrom_Project vars p b sets n parts h = out (L.Project vars p) _ (P.rolls-Project vars p) b sets n parts h
 
 pub pfaults-Project : (vars : List Var) (p : Phys) (sets : Sets) (n : ℕ) (what : Bytes) → PFaults (P.Project vars p) sets n what ≡ PFaultLayer (L.Project vars p) sets n what
 pfaults-Project vars p sets n what = ap (λ (f : PFaulting). f sets n what) (ap PFaults (sym (P.rolls-Project vars p)) ∙ pfaults-roll (L.Project vars p))
-
-pub pallows_Unnest : (v : Var) (its : Generator) (p : Phys) (b : Bool) (sets : Sets) (n : ℕ) (parts : Parts) → PLayer (L.Unnest v its p) b sets n parts → PAllows (P.Unnest v its p) b sets n parts
-pallows_Unnest v its p b sets n parts h = into (L.Unnest v its p) _ (P.rolls-Unnest v its p) b sets n parts h
 
 pub pfrom_Unnest : (v : Var) (its : Generator) (p : Phys) (b : Bool) (sets : Sets) (n : ℕ) (parts : Parts) → PAllows (P.Unnest v its p) b sets n parts → PLayer (L.Unnest v its p) b sets n parts
 pfrom_Unnest v its p b sets n parts h = out (L.Unnest v its p) _ (P.rolls-Unnest v its p) b sets n parts h
@@ -146,17 +122,11 @@ pfrom_Unnest v its p b sets n parts h = out (L.Unnest v its p) _ (P.rolls-Unnest
 pub pfaults-Unnest : (v : Var) (its : Generator) (p : Phys) (sets : Sets) (n : ℕ) (what : Bytes) → PFaults (P.Unnest v its p) sets n what ≡ PFaultLayer (L.Unnest v its p) sets n what
 pfaults-Unnest v its p sets n what = ap (λ (f : PFaulting). f sets n what) (ap PFaults (sym (P.rolls-Unnest v its p)) ∙ pfaults-roll (L.Unnest v its p))
 
-pub pallows_Subplan : (inner : Plan) (p : Phys) (b : Bool) (sets : Sets) (n : ℕ) (parts : Parts) → PLayer (L.Subplan inner p) b sets n parts → PAllows (P.Subplan inner p) b sets n parts
-pallows_Subplan inner p b sets n parts h = into (L.Subplan inner p) _ (P.rolls-Subplan inner p) b sets n parts h
-
 pub pfrom_Subplan : (inner : Plan) (p : Phys) (b : Bool) (sets : Sets) (n : ℕ) (parts : Parts) → PAllows (P.Subplan inner p) b sets n parts → PLayer (L.Subplan inner p) b sets n parts
 pfrom_Subplan inner p b sets n parts h = out (L.Subplan inner p) _ (P.rolls-Subplan inner p) b sets n parts h
 
 pub pfaults-Subplan : (inner : Plan) (p : Phys) (sets : Sets) (n : ℕ) (what : Bytes) → PFaults (P.Subplan inner p) sets n what ≡ PFaultLayer (L.Subplan inner p) sets n what
 pfaults-Subplan inner p sets n what = ap (λ (f : PFaulting). f sets n what) (ap PFaults (sym (P.rolls-Subplan inner p)) ∙ pfaults-roll (L.Subplan inner p))
-
-pub pallows_Check : (own : Bytes) (c : Expr) (p : Phys) (b : Bool) (sets : Sets) (n : ℕ) (parts : Parts) → PLayer (L.Check own c p) b sets n parts → PAllows (P.Check own c p) b sets n parts
-pallows_Check own c p b sets n parts h = into (L.Check own c p) _ (P.rolls-Check own c p) b sets n parts h
 
 pub pfrom_Check : (own : Bytes) (c : Expr) (p : Phys) (b : Bool) (sets : Sets) (n : ℕ) (parts : Parts) → PAllows (P.Check own c p) b sets n parts → PLayer (L.Check own c p) b sets n parts
 pfrom_Check own c p b sets n parts h = out (L.Check own c p) _ (P.rolls-Check own c p) b sets n parts h
@@ -164,17 +134,11 @@ pfrom_Check own c p b sets n parts h = out (L.Check own c p) _ (P.rolls-Check ow
 pub pfaults-Check : (own : Bytes) (c : Expr) (p : Phys) (sets : Sets) (n : ℕ) (what : Bytes) → PFaults (P.Check own c p) sets n what ≡ PFaultLayer (L.Check own c p) sets n what
 pfaults-Check own c p sets n what = ap (λ (f : PFaulting). f sets n what) (ap PFaults (sym (P.rolls-Check own c p)) ∙ pfaults-roll (L.Check own c p))
 
-pub pallows_Join : (form : JoinForm) (c : Expr) (l : Phys) (r : Phys) (b : Bool) (sets : Sets) (n : ℕ) (parts : Parts) → PLayer (L.Join form c l r) b sets n parts → PAllows (P.Join form c l r) b sets n parts
-pallows_Join form c l r b sets n parts h = into (L.Join form c l r) _ (P.rolls-Join form c l r) b sets n parts h
-
 pub pfrom_Join : (form : JoinForm) (c : Expr) (l : Phys) (r : Phys) (b : Bool) (sets : Sets) (n : ℕ) (parts : Parts) → PAllows (P.Join form c l r) b sets n parts → PLayer (L.Join form c l r) b sets n parts
 pfrom_Join form c l r b sets n parts h = out (L.Join form c l r) _ (P.rolls-Join form c l r) b sets n parts h
 
 pub pfaults-Join : (form : JoinForm) (c : Expr) (l : Phys) (r : Phys) (sets : Sets) (n : ℕ) (what : Bytes) → PFaults (P.Join form c l r) sets n what ≡ PFaultLayer (L.Join form c l r) sets n what
 pfaults-Join form c l r sets n what = ap (λ (f : PFaulting). f sets n what) (ap PFaults (sym (P.rolls-Join form c l r)) ∙ pfaults-roll (L.Join form c l r))
-
-pub pallows_HashGroup : (keys : List (Var × Var)) (inner : Plan) (p : Phys) (b : Bool) (sets : Sets) (n : ℕ) (parts : Parts) → PLayer (L.HashGroup keys inner p) b sets n parts → PAllows (P.HashGroup keys inner p) b sets n parts
-pallows_HashGroup keys inner p b sets n parts h = into (L.HashGroup keys inner p) _ (P.rolls-HashGroup keys inner p) b sets n parts h
 
 pub pfrom_HashGroup : (keys : List (Var × Var)) (inner : Plan) (p : Phys) (b : Bool) (sets : Sets) (n : ℕ) (parts : Parts) → PAllows (P.HashGroup keys inner p) b sets n parts → PLayer (L.HashGroup keys inner p) b sets n parts
 pfrom_HashGroup keys inner p b sets n parts h = out (L.HashGroup keys inner p) _ (P.rolls-HashGroup keys inner p) b sets n parts h
@@ -182,17 +146,11 @@ pfrom_HashGroup keys inner p b sets n parts h = out (L.HashGroup keys inner p) _
 pub pfaults-HashGroup : (keys : List (Var × Var)) (inner : Plan) (p : Phys) (sets : Sets) (n : ℕ) (what : Bytes) → PFaults (P.HashGroup keys inner p) sets n what ≡ PFaultLayer (L.HashGroup keys inner p) sets n what
 pfaults-HashGroup keys inner p sets n what = ap (λ (f : PFaulting). f sets n what) (ap PFaults (sym (P.rolls-HashGroup keys inner p)) ∙ pfaults-roll (L.HashGroup keys inner p))
 
-pub pallows_PreGroup : (keys : List (Var × Var)) (inner : Plan) (p : Phys) (b : Bool) (sets : Sets) (n : ℕ) (parts : Parts) → PLayer (L.PreGroup keys inner p) b sets n parts → PAllows (P.PreGroup keys inner p) b sets n parts
-pallows_PreGroup keys inner p b sets n parts h = into (L.PreGroup keys inner p) _ (P.rolls-PreGroup keys inner p) b sets n parts h
-
 pub pfrom_PreGroup : (keys : List (Var × Var)) (inner : Plan) (p : Phys) (b : Bool) (sets : Sets) (n : ℕ) (parts : Parts) → PAllows (P.PreGroup keys inner p) b sets n parts → PLayer (L.PreGroup keys inner p) b sets n parts
 pfrom_PreGroup keys inner p b sets n parts h = out (L.PreGroup keys inner p) _ (P.rolls-PreGroup keys inner p) b sets n parts h
 
 pub pfaults-PreGroup : (keys : List (Var × Var)) (inner : Plan) (p : Phys) (sets : Sets) (n : ℕ) (what : Bytes) → PFaults (P.PreGroup keys inner p) sets n what ≡ PFaultLayer (L.PreGroup keys inner p) sets n what
 pfaults-PreGroup keys inner p sets n what = ap (λ (f : PFaulting). f sets n what) (ap PFaults (sym (P.rolls-PreGroup keys inner p)) ∙ pfaults-roll (L.PreGroup keys inner p))
-
-pub pallows_HashDistinct : (p : Phys) (b : Bool) (sets : Sets) (n : ℕ) (parts : Parts) → PLayer (L.HashDistinct p) b sets n parts → PAllows (P.HashDistinct p) b sets n parts
-pallows_HashDistinct p b sets n parts h = into (L.HashDistinct p) _ (P.rolls-HashDistinct p) b sets n parts h
 
 pub pfrom_HashDistinct : (p : Phys) (b : Bool) (sets : Sets) (n : ℕ) (parts : Parts) → PAllows (P.HashDistinct p) b sets n parts → PLayer (L.HashDistinct p) b sets n parts
 pfrom_HashDistinct p b sets n parts h = out (L.HashDistinct p) _ (P.rolls-HashDistinct p) b sets n parts h
@@ -200,17 +158,11 @@ pfrom_HashDistinct p b sets n parts h = out (L.HashDistinct p) _ (P.rolls-HashDi
 pub pfaults-HashDistinct : (p : Phys) (sets : Sets) (n : ℕ) (what : Bytes) → PFaults (P.HashDistinct p) sets n what ≡ PFaultLayer (L.HashDistinct p) sets n what
 pfaults-HashDistinct p sets n what = ap (λ (f : PFaulting). f sets n what) (ap PFaults (sym (P.rolls-HashDistinct p)) ∙ pfaults-roll (L.HashDistinct p))
 
-pub pallows_AggPart : (made : List (Var × AggCall)) (p : Phys) (b : Bool) (sets : Sets) (n : ℕ) (parts : Parts) → PLayer (L.AggPart made p) b sets n parts → PAllows (P.AggPart made p) b sets n parts
-pallows_AggPart made p b sets n parts h = into (L.AggPart made p) _ (P.rolls-AggPart made p) b sets n parts h
-
 pub pfrom_AggPart : (made : List (Var × AggCall)) (p : Phys) (b : Bool) (sets : Sets) (n : ℕ) (parts : Parts) → PAllows (P.AggPart made p) b sets n parts → PLayer (L.AggPart made p) b sets n parts
 pfrom_AggPart made p b sets n parts h = out (L.AggPart made p) _ (P.rolls-AggPart made p) b sets n parts h
 
 pub pfaults-AggPart : (made : List (Var × AggCall)) (p : Phys) (sets : Sets) (n : ℕ) (what : Bytes) → PFaults (P.AggPart made p) sets n what ≡ PFaultLayer (L.AggPart made p) sets n what
 pfaults-AggPart made p sets n what = ap (λ (f : PFaulting). f sets n what) (ap PFaults (sym (P.rolls-AggPart made p)) ∙ pfaults-roll (L.AggPart made p))
-
-pub pallows_AggFinal : (made : List (Var × AggCall)) (p : Phys) (b : Bool) (sets : Sets) (n : ℕ) (parts : Parts) → PLayer (L.AggFinal made p) b sets n parts → PAllows (P.AggFinal made p) b sets n parts
-pallows_AggFinal made p b sets n parts h = into (L.AggFinal made p) _ (P.rolls-AggFinal made p) b sets n parts h
 
 pub pfrom_AggFinal : (made : List (Var × AggCall)) (p : Phys) (b : Bool) (sets : Sets) (n : ℕ) (parts : Parts) → PAllows (P.AggFinal made p) b sets n parts → PLayer (L.AggFinal made p) b sets n parts
 pfrom_AggFinal made p b sets n parts h = out (L.AggFinal made p) _ (P.rolls-AggFinal made p) b sets n parts h
@@ -218,17 +170,11 @@ pfrom_AggFinal made p b sets n parts h = out (L.AggFinal made p) _ (P.rolls-AggF
 pub pfaults-AggFinal : (made : List (Var × AggCall)) (p : Phys) (sets : Sets) (n : ℕ) (what : Bytes) → PFaults (P.AggFinal made p) sets n what ≡ PFaultLayer (L.AggFinal made p) sets n what
 pfaults-AggFinal made p sets n what = ap (λ (f : PFaulting). f sets n what) (ap PFaults (sym (P.rolls-AggFinal made p)) ∙ pfaults-roll (L.AggFinal made p))
 
-pub pallows_Union : (made : List Var) (ls : List Var) (rs : List Var) (l : Phys) (r : Phys) (b : Bool) (sets : Sets) (n : ℕ) (parts : Parts) → PLayer (L.Union made ls rs l r) b sets n parts → PAllows (P.Union made ls rs l r) b sets n parts
-pallows_Union made ls rs l r b sets n parts h = into (L.Union made ls rs l r) _ (P.rolls-Union made ls rs l r) b sets n parts h
-
 pub pfrom_Union : (made : List Var) (ls : List Var) (rs : List Var) (l : Phys) (r : Phys) (b : Bool) (sets : Sets) (n : ℕ) (parts : Parts) → PAllows (P.Union made ls rs l r) b sets n parts → PLayer (L.Union made ls rs l r) b sets n parts
 pfrom_Union made ls rs l r b sets n parts h = out (L.Union made ls rs l r) _ (P.rolls-Union made ls rs l r) b sets n parts h
 
 pub pfaults-Union : (made : List Var) (ls : List Var) (rs : List Var) (l : Phys) (r : Phys) (sets : Sets) (n : ℕ) (what : Bytes) → PFaults (P.Union made ls rs l r) sets n what ≡ PFaultLayer (L.Union made ls rs l r) sets n what
 pfaults-Union made ls rs l r sets n what = ap (λ (f : PFaulting). f sets n what) (ap PFaults (sym (P.rolls-Union made ls rs l r)) ∙ pfaults-roll (L.Union made ls rs l r))
-
-pub pallows_Sort : (keys : List OrderKey) (p : Phys) (b : Bool) (sets : Sets) (n : ℕ) (parts : Parts) → PLayer (L.Sort keys p) b sets n parts → PAllows (P.Sort keys p) b sets n parts
-pallows_Sort keys p b sets n parts h = into (L.Sort keys p) _ (P.rolls-Sort keys p) b sets n parts h
 
 pub pfrom_Sort : (keys : List OrderKey) (p : Phys) (b : Bool) (sets : Sets) (n : ℕ) (parts : Parts) → PAllows (P.Sort keys p) b sets n parts → PLayer (L.Sort keys p) b sets n parts
 pfrom_Sort keys p b sets n parts h = out (L.Sort keys p) _ (P.rolls-Sort keys p) b sets n parts h
@@ -236,17 +182,11 @@ pfrom_Sort keys p b sets n parts h = out (L.Sort keys p) _ (P.rolls-Sort keys p)
 pub pfaults-Sort : (keys : List OrderKey) (p : Phys) (sets : Sets) (n : ℕ) (what : Bytes) → PFaults (P.Sort keys p) sets n what ≡ PFaultLayer (L.Sort keys p) sets n what
 pfaults-Sort keys p sets n what = ap (λ (f : PFaulting). f sets n what) (ap PFaults (sym (P.rolls-Sort keys p)) ∙ pfaults-roll (L.Sort keys p))
 
-pub pallows_Limit : (m : ℕ) (k : ℕ) (p : Phys) (b : Bool) (sets : Sets) (n : ℕ) (parts : Parts) → PLayer (L.Limit m k p) b sets n parts → PAllows (P.Limit m k p) b sets n parts
-pallows_Limit m k p b sets n parts h = into (L.Limit m k p) _ (P.rolls-Limit m k p) b sets n parts h
-
 pub pfrom_Limit : (m : ℕ) (k : ℕ) (p : Phys) (b : Bool) (sets : Sets) (n : ℕ) (parts : Parts) → PAllows (P.Limit m k p) b sets n parts → PLayer (L.Limit m k p) b sets n parts
 pfrom_Limit m k p b sets n parts h = out (L.Limit m k p) _ (P.rolls-Limit m k p) b sets n parts h
 
 pub pfaults-Limit : (m : ℕ) (k : ℕ) (p : Phys) (sets : Sets) (n : ℕ) (what : Bytes) → PFaults (P.Limit m k p) sets n what ≡ PFaultLayer (L.Limit m k p) sets n what
 pfaults-Limit m k p sets n what = ap (λ (f : PFaulting). f sets n what) (ap PFaults (sym (P.rolls-Limit m k p)) ∙ pfaults-roll (L.Limit m k p))
-
-pub pallows_LocalLimit : (m : ℕ) (p : Phys) (b : Bool) (sets : Sets) (n : ℕ) (parts : Parts) → PLayer (L.LocalLimit m p) b sets n parts → PAllows (P.LocalLimit m p) b sets n parts
-pallows_LocalLimit m p b sets n parts h = into (L.LocalLimit m p) _ (P.rolls-LocalLimit m p) b sets n parts h
 
 pub pfrom_LocalLimit : (m : ℕ) (p : Phys) (b : Bool) (sets : Sets) (n : ℕ) (parts : Parts) → PAllows (P.LocalLimit m p) b sets n parts → PLayer (L.LocalLimit m p) b sets n parts
 pfrom_LocalLimit m p b sets n parts h = out (L.LocalLimit m p) _ (P.rolls-LocalLimit m p) b sets n parts h
@@ -254,17 +194,11 @@ pfrom_LocalLimit m p b sets n parts h = out (L.LocalLimit m p) _ (P.rolls-LocalL
 pub pfaults-LocalLimit : (m : ℕ) (p : Phys) (sets : Sets) (n : ℕ) (what : Bytes) → PFaults (P.LocalLimit m p) sets n what ≡ PFaultLayer (L.LocalLimit m p) sets n what
 pfaults-LocalLimit m p sets n what = ap (λ (f : PFaulting). f sets n what) (ap PFaults (sym (P.rolls-LocalLimit m p)) ∙ pfaults-roll (L.LocalLimit m p))
 
-pub pallows_Result : (vars : List Var) (p : Phys) (b : Bool) (sets : Sets) (n : ℕ) (parts : Parts) → PLayer (L.Result vars p) b sets n parts → PAllows (P.Result vars p) b sets n parts
-pallows_Result vars p b sets n parts h = into (L.Result vars p) _ (P.rolls-Result vars p) b sets n parts h
-
 pub pfrom_Result : (vars : List Var) (p : Phys) (b : Bool) (sets : Sets) (n : ℕ) (parts : Parts) → PAllows (P.Result vars p) b sets n parts → PLayer (L.Result vars p) b sets n parts
 pfrom_Result vars p b sets n parts h = out (L.Result vars p) _ (P.rolls-Result vars p) b sets n parts h
 
 pub pfaults-Result : (vars : List Var) (p : Phys) (sets : Sets) (n : ℕ) (what : Bytes) → PFaults (P.Result vars p) sets n what ≡ PFaultLayer (L.Result vars p) sets n what
 pfaults-Result vars p sets n what = ap (λ (f : PFaulting). f sets n what) (ap PFaults (sym (P.rolls-Result vars p)) ∙ pfaults-roll (L.Result vars p))
-
-pub pallows_HashExchange : (vars : List Var) (p : Phys) (b : Bool) (sets : Sets) (n : ℕ) (parts : Parts) → PLayer (L.HashExchange vars p) b sets n parts → PAllows (P.HashExchange vars p) b sets n parts
-pallows_HashExchange vars p b sets n parts h = into (L.HashExchange vars p) _ (P.rolls-HashExchange vars p) b sets n parts h
 
 pub pfrom_HashExchange : (vars : List Var) (p : Phys) (b : Bool) (sets : Sets) (n : ℕ) (parts : Parts) → PAllows (P.HashExchange vars p) b sets n parts → PLayer (L.HashExchange vars p) b sets n parts
 pfrom_HashExchange vars p b sets n parts h = out (L.HashExchange vars p) _ (P.rolls-HashExchange vars p) b sets n parts h
@@ -272,26 +206,17 @@ pfrom_HashExchange vars p b sets n parts h = out (L.HashExchange vars p) _ (P.ro
 pub pfaults-HashExchange : (vars : List Var) (p : Phys) (sets : Sets) (n : ℕ) (what : Bytes) → PFaults (P.HashExchange vars p) sets n what ≡ PFaultLayer (L.HashExchange vars p) sets n what
 pfaults-HashExchange vars p sets n what = ap (λ (f : PFaulting). f sets n what) (ap PFaults (sym (P.rolls-HashExchange vars p)) ∙ pfaults-roll (L.HashExchange vars p))
 
-pub pallows_Broadcast : (p : Phys) (b : Bool) (sets : Sets) (n : ℕ) (parts : Parts) → PLayer (L.Broadcast p) b sets n parts → PAllows (P.Broadcast p) b sets n parts
-pallows_Broadcast p b sets n parts h = into (L.Broadcast p) _ (P.rolls-Broadcast p) b sets n parts h
-
 pub pfrom_Broadcast : (p : Phys) (b : Bool) (sets : Sets) (n : ℕ) (parts : Parts) → PAllows (P.Broadcast p) b sets n parts → PLayer (L.Broadcast p) b sets n parts
 pfrom_Broadcast p b sets n parts h = out (L.Broadcast p) _ (P.rolls-Broadcast p) b sets n parts h
 
 pub pfaults-Broadcast : (p : Phys) (sets : Sets) (n : ℕ) (what : Bytes) → PFaults (P.Broadcast p) sets n what ≡ PFaultLayer (L.Broadcast p) sets n what
 pfaults-Broadcast p sets n what = ap (λ (f : PFaulting). f sets n what) (ap PFaults (sym (P.rolls-Broadcast p)) ∙ pfaults-roll (L.Broadcast p))
 
-pub pallows_Gather : (p : Phys) (b : Bool) (sets : Sets) (n : ℕ) (parts : Parts) → PLayer (L.Gather p) b sets n parts → PAllows (P.Gather p) b sets n parts
-pallows_Gather p b sets n parts h = into (L.Gather p) _ (P.rolls-Gather p) b sets n parts h
-
 pub pfrom_Gather : (p : Phys) (b : Bool) (sets : Sets) (n : ℕ) (parts : Parts) → PAllows (P.Gather p) b sets n parts → PLayer (L.Gather p) b sets n parts
 pfrom_Gather p b sets n parts h = out (L.Gather p) _ (P.rolls-Gather p) b sets n parts h
 
 pub pfaults-Gather : (p : Phys) (sets : Sets) (n : ℕ) (what : Bytes) → PFaults (P.Gather p) sets n what ≡ PFaultLayer (L.Gather p) sets n what
 pfaults-Gather p sets n what = ap (λ (f : PFaulting). f sets n what) (ap PFaults (sym (P.rolls-Gather p)) ∙ pfaults-roll (L.Gather p))
-
-pub pallows_Merge : (keys : List OrderKey) (p : Phys) (b : Bool) (sets : Sets) (n : ℕ) (parts : Parts) → PLayer (L.Merge keys p) b sets n parts → PAllows (P.Merge keys p) b sets n parts
-pallows_Merge keys p b sets n parts h = into (L.Merge keys p) _ (P.rolls-Merge keys p) b sets n parts h
 
 pub pfrom_Merge : (keys : List OrderKey) (p : Phys) (b : Bool) (sets : Sets) (n : ℕ) (parts : Parts) → PAllows (P.Merge keys p) b sets n parts → PLayer (L.Merge keys p) b sets n parts
 pfrom_Merge keys p b sets n parts h = out (L.Merge keys p) _ (P.rolls-Merge keys p) b sets n parts h

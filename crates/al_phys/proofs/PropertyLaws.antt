@@ -256,9 +256,6 @@ required-AggPart made p i = required_at _ (L.AggPart made p) (pout-AggPart made 
 pub laid-AggPart : (n : ℕ) (made : List (Var × AggCall)) (p : Phys) → IsLaid n (P.AggPart made p) ≡ laid_step n (L.AggPart made p)
 laid-AggPart n made p = laid_at n _ (L.AggPart made p) (pout-AggPart made p)
 
-pub whole-AggPart : (n : ℕ) (made : List (Var × AggCall)) (p : Phys) → IsWhole n (P.AggPart made p) ≡ whole_step n (L.AggPart made p)
-whole-AggPart n made p = whole_at n _ (L.AggPart made p) (pout-AggPart made p)
-
 pub spread-AggFinal : (made : List (Var × AggCall)) (p : Phys) → (spread_of (P.AggFinal made p)).by ≡ spread_by Phys (λ q. q) spread_of (L.AggFinal made p)
 spread-AggFinal made p = ap (λ (q : Phys). (spread_of q).by) (sym (P.rolls-AggFinal made p)) ∙ spread-roll (L.AggFinal made p)
 
@@ -361,9 +358,6 @@ required-HashExchange vars p i = required_at _ (L.HashExchange vars p) (pout-Has
 pub laid-HashExchange : (n : ℕ) (vars : List Var) (p : Phys) → IsLaid n (P.HashExchange vars p) ≡ laid_step n (L.HashExchange vars p)
 laid-HashExchange n vars p = laid_at n _ (L.HashExchange vars p) (pout-HashExchange vars p)
 
-pub whole-HashExchange : (n : ℕ) (vars : List Var) (p : Phys) → IsWhole n (P.HashExchange vars p) ≡ whole_step n (L.HashExchange vars p)
-whole-HashExchange n vars p = whole_at n _ (L.HashExchange vars p) (pout-HashExchange vars p)
-
 pub spread-Broadcast : (p : Phys) → (spread_of (P.Broadcast p)).by ≡ spread_by Phys (λ q. q) spread_of (L.Broadcast p)
 spread-Broadcast p = ap (λ (q : Phys). (spread_of q).by) (sym (P.rolls-Broadcast p)) ∙ spread-roll (L.Broadcast p)
 
@@ -375,9 +369,6 @@ required-Broadcast p i = required_at _ (L.Broadcast p) (pout-Broadcast p) i
 
 pub laid-Broadcast : (n : ℕ) (p : Phys) → IsLaid n (P.Broadcast p) ≡ laid_step n (L.Broadcast p)
 laid-Broadcast n p = laid_at n _ (L.Broadcast p) (pout-Broadcast p)
-
-pub whole-Broadcast : (n : ℕ) (p : Phys) → IsWhole n (P.Broadcast p) ≡ whole_step n (L.Broadcast p)
-whole-Broadcast n p = whole_at n _ (L.Broadcast p) (pout-Broadcast p)
 
 pub spread-Gather : (p : Phys) → (spread_of (P.Gather p)).by ≡ spread_by Phys (λ q. q) spread_of (L.Gather p)
 spread-Gather p = ap (λ (q : Phys). (spread_of q).by) (sym (P.rolls-Gather p)) ∙ spread-roll (L.Gather p)

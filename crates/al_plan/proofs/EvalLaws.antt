@@ -46,8 +46,6 @@ bind-cons x xs v vs q = refl
 
 pub ruleset eval_laws = (eval-Var, eval-Lit, eval-Call)
 
-pub ruleset bind_laws = (bind-nil, bind-short, bind-cons)
-
 -- a loop's step over both lists by one index
 pub bind-at : (xs : List Var) (vs : List Value) (i : ℕ) (d : Var) (e : Value) (q : Bytes) → i < length xs → i < length vs
     → bind (drop i xs) (drop i vs) q ≡ (if pointwise nat_eq (get_or xs i d).name q then get_or vs i e else bind (drop (i + 1) xs) (drop (i + 1) vs) q)

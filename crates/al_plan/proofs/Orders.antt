@@ -19,9 +19,6 @@ unroll x b sets given outer rows h = subst (λ (a : Allowing). a b sets given ou
 pub enroll : (x : L.Plan-F Plan) (b : Bool) (sets : Sets) (given : List Var) (outer rows : List Env) → Layer x b sets given outer rows → Allows (roll-Plan x) b sets given outer rows
 enroll x b sets given outer rows h = subst (λ (a : Allowing). a b sets given outer rows) (sym (allows-roll x)) h
 
-abbrev Lifted : {X Y : Type 0} → (List X → List Y) → List X → List Y → Type 0
-Lifted {X} f xs ys = (zs : List X) × IsPermutation xs zs × (ys ≡ f zs)
-
 not_false : (b : Bool) → not b ≡ true → b ≡ false
 not_false true h = sym h
 not_false false h = refl

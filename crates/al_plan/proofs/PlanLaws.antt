@@ -172,12 +172,6 @@ from_Scan set vars b sets given outer rows h = out (L.Scan set vars) _ (P.rolls-
 pub faults-Scan : (set : Bytes) (vars : List Var) (sets : Sets) (given : List Var) (outer : List Env) (what : Bytes) → Faults (P.Scan set vars) sets given outer what ≡ FaultLayer (L.Scan set vars) sets given outer what
 faults-Scan set vars sets given outer what = ap (λ (f : Faulting). f sets given outer what) (rolled_faults (L.Scan set vars) _ (P.rolls-Scan set vars))
 
-pub each-Scan : (set : Bytes) (vars : List Var) (inside : Bool) (given : List Var) → FitsEach (P.Scan set vars) inside given ≡ EachLayer (L.Scan set vars) inside given
-each-Scan set vars inside given = ap (λ (f : Fitting). f inside given) (rolled_each (L.Scan set vars) _ (P.rolls-Scan set vars))
-
-pub narrow-Scan : (set : Bytes) (vars : List Var) (given : List Var) → Narrow (P.Scan set vars) given ≡ NarrowLayer (L.Scan set vars) given
-narrow-Scan set vars given = ap (λ (f : List Var → Type 0). f given) (rolled_narrow (L.Scan set vars) _ (P.rolls-Scan set vars))
-
 pub live-Scan : (set : Bytes) (vars : List Var) (given : List Var) → live (P.Scan set vars) given ≡ vars
 live-Scan set vars given = ap (λ (f : List Var → List Var). f given) (ap live (sym (P.rolls-Scan set vars)) ∙ live-roll (L.Scan set vars))
 
@@ -187,20 +181,11 @@ ordered-Scan set vars = ap ordered (sym (P.rolls-Scan set vars)) ∙ ordered-rol
 pub scans-Scan : (set : Bytes) (vars : List Var) → scans (P.Scan set vars) ≡ scans_step (map-Plan Plan (List Scan) scans (L.Scan set vars))
 scans-Scan set vars = ap scans (sym (P.rolls-Scan set vars)) ∙ scans-roll (L.Scan set vars)
 
-pub makes-Scan : (set : Bytes) (vars : List Var) → makes (P.Scan set vars) ≡ makes_step (map-Plan Plan (List Var) makes (L.Scan set vars))
-makes-Scan set vars = ap makes (sym (P.rolls-Scan set vars)) ∙ makes-roll (L.Scan set vars)
-
-pub result-Scan : (set : Bytes) (vars : List Var) → result_of (P.Scan set vars) ≡ None
-result-Scan set vars = ap result_of (sym (P.rolls-Scan set vars)) ∙ result-roll (L.Scan set vars)
-
 pub allows_Empty : (b : Bool) (sets : Sets) (given : List Var) (outer rows : List Env) → Layer L.Empty b sets given outer rows → Allows P.Empty b sets given outer rows
 allows_Empty b sets given outer rows h = into L.Empty _ (P.rolls-Empty) b sets given outer rows h
 
 pub from_Empty : (b : Bool) (sets : Sets) (given : List Var) (outer rows : List Env) → Allows P.Empty b sets given outer rows → Layer L.Empty b sets given outer rows
 from_Empty b sets given outer rows h = out L.Empty _ (P.rolls-Empty) b sets given outer rows h
-
-pub faults-Empty : (sets : Sets) (given : List Var) (outer : List Env) (what : Bytes) → Faults P.Empty sets given outer what ≡ FaultLayer L.Empty sets given outer what
-faults-Empty sets given outer what = ap (λ (f : Faulting). f sets given outer what) (rolled_faults L.Empty _ (P.rolls-Empty))
 
 pub each-Empty : (inside : Bool) (given : List Var) → FitsEach P.Empty inside given ≡ EachLayer L.Empty inside given
 each-Empty inside given = ap (λ (f : Fitting). f inside given) (rolled_each L.Empty _ (P.rolls-Empty))
@@ -214,9 +199,6 @@ live-Empty given = ap (λ (f : List Var → List Var). f given) (ap live (sym (P
 pub ordered-Empty : ordered P.Empty ≡ ordered_step (map-Plan Plan (Bool) ordered L.Empty)
 ordered-Empty = ap ordered (sym (P.rolls-Empty)) ∙ ordered-roll L.Empty
 
-pub scans-Empty : scans P.Empty ≡ scans_step (map-Plan Plan (List Scan) scans L.Empty)
-scans-Empty = ap scans (sym (P.rolls-Empty)) ∙ scans-roll L.Empty
-
 pub makes-Empty : makes P.Empty ≡ makes_step (map-Plan Plan (List Var) makes L.Empty)
 makes-Empty = ap makes (sym (P.rolls-Empty)) ∙ makes-roll L.Empty
 
@@ -229,23 +211,14 @@ allows_Nested b sets given outer rows h = into L.Nested _ (P.rolls-Nested) b set
 pub from_Nested : (b : Bool) (sets : Sets) (given : List Var) (outer rows : List Env) → Allows P.Nested b sets given outer rows → Layer L.Nested b sets given outer rows
 from_Nested b sets given outer rows h = out L.Nested _ (P.rolls-Nested) b sets given outer rows h
 
-pub faults-Nested : (sets : Sets) (given : List Var) (outer : List Env) (what : Bytes) → Faults P.Nested sets given outer what ≡ FaultLayer L.Nested sets given outer what
-faults-Nested sets given outer what = ap (λ (f : Faulting). f sets given outer what) (rolled_faults L.Nested _ (P.rolls-Nested))
-
 pub each-Nested : (inside : Bool) (given : List Var) → FitsEach P.Nested inside given ≡ EachLayer L.Nested inside given
 each-Nested inside given = ap (λ (f : Fitting). f inside given) (rolled_each L.Nested _ (P.rolls-Nested))
-
-pub narrow-Nested : (given : List Var) → Narrow P.Nested given ≡ NarrowLayer L.Nested given
-narrow-Nested given = ap (λ (f : List Var → Type 0). f given) (rolled_narrow L.Nested _ (P.rolls-Nested))
 
 pub live-Nested : (given : List Var) → live P.Nested given ≡ given
 live-Nested given = ap (λ (f : List Var → List Var). f given) (ap live (sym (P.rolls-Nested)) ∙ live-roll L.Nested)
 
 pub ordered-Nested : ordered P.Nested ≡ ordered_step (map-Plan Plan (Bool) ordered L.Nested)
 ordered-Nested = ap ordered (sym (P.rolls-Nested)) ∙ ordered-roll L.Nested
-
-pub scans-Nested : scans P.Nested ≡ scans_step (map-Plan Plan (List Scan) scans L.Nested)
-scans-Nested = ap scans (sym (P.rolls-Nested)) ∙ scans-roll L.Nested
 
 pub makes-Nested : makes P.Nested ≡ makes_step (map-Plan Plan (List Var) makes L.Nested)
 makes-Nested = ap makes (sym (P.rolls-Nested)) ∙ makes-roll L.Nested
@@ -261,12 +234,6 @@ from_Assign made p b sets given outer rows h = out (L.Assign made p) _ (P.rolls-
 
 pub faults-Assign : (made : List (Var × Expr)) (p : Plan) (sets : Sets) (given : List Var) (outer : List Env) (what : Bytes) → Faults (P.Assign made p) sets given outer what ≡ FaultLayer (L.Assign made p) sets given outer what
 faults-Assign made p sets given outer what = ap (λ (f : Faulting). f sets given outer what) (rolled_faults (L.Assign made p) _ (P.rolls-Assign made p))
-
-pub each-Assign : (made : List (Var × Expr)) (p : Plan) (inside : Bool) (given : List Var) → FitsEach (P.Assign made p) inside given ≡ EachLayer (L.Assign made p) inside given
-each-Assign made p inside given = ap (λ (f : Fitting). f inside given) (rolled_each (L.Assign made p) _ (P.rolls-Assign made p))
-
-pub narrow-Assign : (made : List (Var × Expr)) (p : Plan) (given : List Var) → Narrow (P.Assign made p) given ≡ NarrowLayer (L.Assign made p) given
-narrow-Assign made p given = ap (λ (f : List Var → Type 0). f given) (rolled_narrow (L.Assign made p) _ (P.rolls-Assign made p))
 
 pub live-Assign : (made : List (Var × Expr)) (p : Plan) (given : List Var) → live (P.Assign made p) given ≡ live p given ++ map (λ m. m.0) made
 live-Assign made p given = ap (λ (f : List Var → List Var). f given) (ap live (sym (P.rolls-Assign made p)) ∙ live-roll (L.Assign made p))
@@ -292,12 +259,6 @@ from_Select c p b sets given outer rows h = out (L.Select c p) _ (P.rolls-Select
 pub faults-Select : (c : Expr) (p : Plan) (sets : Sets) (given : List Var) (outer : List Env) (what : Bytes) → Faults (P.Select c p) sets given outer what ≡ FaultLayer (L.Select c p) sets given outer what
 faults-Select c p sets given outer what = ap (λ (f : Faulting). f sets given outer what) (rolled_faults (L.Select c p) _ (P.rolls-Select c p))
 
-pub each-Select : (c : Expr) (p : Plan) (inside : Bool) (given : List Var) → FitsEach (P.Select c p) inside given ≡ EachLayer (L.Select c p) inside given
-each-Select c p inside given = ap (λ (f : Fitting). f inside given) (rolled_each (L.Select c p) _ (P.rolls-Select c p))
-
-pub narrow-Select : (c : Expr) (p : Plan) (given : List Var) → Narrow (P.Select c p) given ≡ NarrowLayer (L.Select c p) given
-narrow-Select c p given = ap (λ (f : List Var → Type 0). f given) (rolled_narrow (L.Select c p) _ (P.rolls-Select c p))
-
 pub live-Select : (c : Expr) (p : Plan) (given : List Var) → live (P.Select c p) given ≡ live p given
 live-Select c p given = ap (λ (f : List Var → List Var). f given) (ap live (sym (P.rolls-Select c p)) ∙ live-roll (L.Select c p))
 
@@ -322,12 +283,6 @@ from_Project vars p b sets given outer rows h = out (L.Project vars p) _ (P.roll
 pub faults-Project : (vars : List Var) (p : Plan) (sets : Sets) (given : List Var) (outer : List Env) (what : Bytes) → Faults (P.Project vars p) sets given outer what ≡ FaultLayer (L.Project vars p) sets given outer what
 faults-Project vars p sets given outer what = ap (λ (f : Faulting). f sets given outer what) (rolled_faults (L.Project vars p) _ (P.rolls-Project vars p))
 
-pub each-Project : (vars : List Var) (p : Plan) (inside : Bool) (given : List Var) → FitsEach (P.Project vars p) inside given ≡ EachLayer (L.Project vars p) inside given
-each-Project vars p inside given = ap (λ (f : Fitting). f inside given) (rolled_each (L.Project vars p) _ (P.rolls-Project vars p))
-
-pub narrow-Project : (vars : List Var) (p : Plan) (given : List Var) → Narrow (P.Project vars p) given ≡ NarrowLayer (L.Project vars p) given
-narrow-Project vars p given = ap (λ (f : List Var → Type 0). f given) (rolled_narrow (L.Project vars p) _ (P.rolls-Project vars p))
-
 pub live-Project : (vars : List Var) (p : Plan) (given : List Var) → live (P.Project vars p) given ≡ vars
 live-Project vars p given = ap (λ (f : List Var → List Var). f given) (ap live (sym (P.rolls-Project vars p)) ∙ live-roll (L.Project vars p))
 
@@ -351,12 +306,6 @@ from_Unnest v g p b sets given outer rows h = out (L.Unnest v g p) _ (P.rolls-Un
 
 pub faults-Unnest : (v : Var) (g : Generator) (p : Plan) (sets : Sets) (given : List Var) (outer : List Env) (what : Bytes) → Faults (P.Unnest v g p) sets given outer what ≡ FaultLayer (L.Unnest v g p) sets given outer what
 faults-Unnest v g p sets given outer what = ap (λ (f : Faulting). f sets given outer what) (rolled_faults (L.Unnest v g p) _ (P.rolls-Unnest v g p))
-
-pub each-Unnest : (v : Var) (g : Generator) (p : Plan) (inside : Bool) (given : List Var) → FitsEach (P.Unnest v g p) inside given ≡ EachLayer (L.Unnest v g p) inside given
-each-Unnest v g p inside given = ap (λ (f : Fitting). f inside given) (rolled_each (L.Unnest v g p) _ (P.rolls-Unnest v g p))
-
-pub narrow-Unnest : (v : Var) (g : Generator) (p : Plan) (given : List Var) → Narrow (P.Unnest v g p) given ≡ NarrowLayer (L.Unnest v g p) given
-narrow-Unnest v g p given = ap (λ (f : List Var → Type 0). f given) (rolled_narrow (L.Unnest v g p) _ (P.rolls-Unnest v g p))
 
 pub live-Unnest : (v : Var) (g : Generator) (p : Plan) (given : List Var) → live (P.Unnest v g p) given ≡ live p given ++ v ∷ []
 live-Unnest v g p given = ap (λ (f : List Var → List Var). f given) (ap live (sym (P.rolls-Unnest v g p)) ∙ live-roll (L.Unnest v g p))
@@ -385,9 +334,6 @@ faults-Subplan n p sets given outer what = ap (λ (f : Faulting). f sets given o
 pub each-Subplan : (n p : Plan) (inside : Bool) (given : List Var) → FitsEach (P.Subplan n p) inside given ≡ EachLayer (L.Subplan n p) inside given
 each-Subplan n p inside given = ap (λ (f : Fitting). f inside given) (rolled_each (L.Subplan n p) _ (P.rolls-Subplan n p))
 
-pub narrow-Subplan : (n p : Plan) (given : List Var) → Narrow (P.Subplan n p) given ≡ NarrowLayer (L.Subplan n p) given
-narrow-Subplan n p given = ap (λ (f : List Var → Type 0). f given) (rolled_narrow (L.Subplan n p) _ (P.rolls-Subplan n p))
-
 pub live-Subplan : (n p : Plan) (given : List Var) → live (P.Subplan n p) given ≡ live p given ++ live n (live p given)
 live-Subplan n p given = ap (λ (f : List Var → List Var). f given) (ap live (sym (P.rolls-Subplan n p)) ∙ live-roll (L.Subplan n p))
 
@@ -412,12 +358,6 @@ from_Join c l r b sets given outer rows h = out (L.Join c l r) _ (P.rolls-Join c
 pub faults-Join : (c : Expr) (l r : Plan) (sets : Sets) (given : List Var) (outer : List Env) (what : Bytes) → Faults (P.Join c l r) sets given outer what ≡ FaultLayer (L.Join c l r) sets given outer what
 faults-Join c l r sets given outer what = ap (λ (f : Faulting). f sets given outer what) (rolled_faults (L.Join c l r) _ (P.rolls-Join c l r))
 
-pub each-Join : (c : Expr) (l r : Plan) (inside : Bool) (given : List Var) → FitsEach (P.Join c l r) inside given ≡ EachLayer (L.Join c l r) inside given
-each-Join c l r inside given = ap (λ (f : Fitting). f inside given) (rolled_each (L.Join c l r) _ (P.rolls-Join c l r))
-
-pub narrow-Join : (c : Expr) (l r : Plan) (given : List Var) → Narrow (P.Join c l r) given ≡ NarrowLayer (L.Join c l r) given
-narrow-Join c l r given = ap (λ (f : List Var → Type 0). f given) (rolled_narrow (L.Join c l r) _ (P.rolls-Join c l r))
-
 pub live-Join : (c : Expr) (l r : Plan) (given : List Var) → live (P.Join c l r) given ≡ live l given ++ live r given
 live-Join c l r given = ap (λ (f : List Var → List Var). f given) (ap live (sym (P.rolls-Join c l r)) ∙ live-roll (L.Join c l r))
 
@@ -441,12 +381,6 @@ from_LeftJoin c l r b sets given outer rows h = out (L.LeftJoin c l r) _ (P.roll
 
 pub faults-LeftJoin : (c : Expr) (l r : Plan) (sets : Sets) (given : List Var) (outer : List Env) (what : Bytes) → Faults (P.LeftJoin c l r) sets given outer what ≡ FaultLayer (L.LeftJoin c l r) sets given outer what
 faults-LeftJoin c l r sets given outer what = ap (λ (f : Faulting). f sets given outer what) (rolled_faults (L.LeftJoin c l r) _ (P.rolls-LeftJoin c l r))
-
-pub each-LeftJoin : (c : Expr) (l r : Plan) (inside : Bool) (given : List Var) → FitsEach (P.LeftJoin c l r) inside given ≡ EachLayer (L.LeftJoin c l r) inside given
-each-LeftJoin c l r inside given = ap (λ (f : Fitting). f inside given) (rolled_each (L.LeftJoin c l r) _ (P.rolls-LeftJoin c l r))
-
-pub narrow-LeftJoin : (c : Expr) (l r : Plan) (given : List Var) → Narrow (P.LeftJoin c l r) given ≡ NarrowLayer (L.LeftJoin c l r) given
-narrow-LeftJoin c l r given = ap (λ (f : List Var → Type 0). f given) (rolled_narrow (L.LeftJoin c l r) _ (P.rolls-LeftJoin c l r))
 
 pub live-LeftJoin : (c : Expr) (l r : Plan) (given : List Var) → live (P.LeftJoin c l r) given ≡ live l given ++ live r given
 live-LeftJoin c l r given = ap (λ (f : List Var → List Var). f given) (ap live (sym (P.rolls-LeftJoin c l r)) ∙ live-roll (L.LeftJoin c l r))
@@ -475,9 +409,6 @@ faults-Group keys n p sets given outer what = ap (λ (f : Faulting). f sets give
 pub each-Group : (keys : List (Var × Var)) (n p : Plan) (inside : Bool) (given : List Var) → FitsEach (P.Group keys n p) inside given ≡ EachLayer (L.Group keys n p) inside given
 each-Group keys n p inside given = ap (λ (f : Fitting). f inside given) (rolled_each (L.Group keys n p) _ (P.rolls-Group keys n p))
 
-pub narrow-Group : (keys : List (Var × Var)) (n p : Plan) (given : List Var) → Narrow (P.Group keys n p) given ≡ NarrowLayer (L.Group keys n p) given
-narrow-Group keys n p given = ap (λ (f : List Var → Type 0). f given) (rolled_narrow (L.Group keys n p) _ (P.rolls-Group keys n p))
-
 pub live-Group : (keys : List (Var × Var)) (n p : Plan) (given : List Var) → live (P.Group keys n p) given ≡ map (λ k. k.0) keys ++ live n (live p given)
 live-Group keys n p given = ap (λ (f : List Var → List Var). f given) (ap live (sym (P.rolls-Group keys n p)) ∙ live-roll (L.Group keys n p))
 
@@ -504,9 +435,6 @@ faults-Distinct p sets given outer what = ap (λ (f : Faulting). f sets given ou
 
 pub each-Distinct : (p : Plan) (inside : Bool) (given : List Var) → FitsEach (P.Distinct p) inside given ≡ EachLayer (L.Distinct p) inside given
 each-Distinct p inside given = ap (λ (f : Fitting). f inside given) (rolled_each (L.Distinct p) _ (P.rolls-Distinct p))
-
-pub narrow-Distinct : (p : Plan) (given : List Var) → Narrow (P.Distinct p) given ≡ NarrowLayer (L.Distinct p) given
-narrow-Distinct p given = ap (λ (f : List Var → Type 0). f given) (rolled_narrow (L.Distinct p) _ (P.rolls-Distinct p))
 
 pub live-Distinct : (p : Plan) (given : List Var) → live (P.Distinct p) given ≡ live p given
 live-Distinct p given = ap (λ (f : List Var → List Var). f given) (ap live (sym (P.rolls-Distinct p)) ∙ live-roll (L.Distinct p))
@@ -535,9 +463,6 @@ faults-Union made ls rs l r sets given outer what = ap (λ (f : Faulting). f set
 pub each-Union : (made ls rs : List Var) (l r : Plan) (inside : Bool) (given : List Var) → FitsEach (P.Union made ls rs l r) inside given ≡ EachLayer (L.Union made ls rs l r) inside given
 each-Union made ls rs l r inside given = ap (λ (f : Fitting). f inside given) (rolled_each (L.Union made ls rs l r) _ (P.rolls-Union made ls rs l r))
 
-pub narrow-Union : (made ls rs : List Var) (l r : Plan) (given : List Var) → Narrow (P.Union made ls rs l r) given ≡ NarrowLayer (L.Union made ls rs l r) given
-narrow-Union made ls rs l r given = ap (λ (f : List Var → Type 0). f given) (rolled_narrow (L.Union made ls rs l r) _ (P.rolls-Union made ls rs l r))
-
 pub live-Union : (made ls rs : List Var) (l r : Plan) (given : List Var) → live (P.Union made ls rs l r) given ≡ made
 live-Union made ls rs l r given = ap (λ (f : List Var → List Var). f given) (ap live (sym (P.rolls-Union made ls rs l r)) ∙ live-roll (L.Union made ls rs l r))
 
@@ -565,9 +490,6 @@ faults-Aggregate made p sets given outer what = ap (λ (f : Faulting). f sets gi
 pub each-Aggregate : (made : List (Var × AggCall)) (p : Plan) (inside : Bool) (given : List Var) → FitsEach (P.Aggregate made p) inside given ≡ EachLayer (L.Aggregate made p) inside given
 each-Aggregate made p inside given = ap (λ (f : Fitting). f inside given) (rolled_each (L.Aggregate made p) _ (P.rolls-Aggregate made p))
 
-pub narrow-Aggregate : (made : List (Var × AggCall)) (p : Plan) (given : List Var) → Narrow (P.Aggregate made p) given ≡ NarrowLayer (L.Aggregate made p) given
-narrow-Aggregate made p given = ap (λ (f : List Var → Type 0). f given) (rolled_narrow (L.Aggregate made p) _ (P.rolls-Aggregate made p))
-
 pub live-Aggregate : (made : List (Var × AggCall)) (p : Plan) (given : List Var) → live (P.Aggregate made p) given ≡ map (λ m. m.0) made
 live-Aggregate made p given = ap (λ (f : List Var → List Var). f given) (ap live (sym (P.rolls-Aggregate made p)) ∙ live-roll (L.Aggregate made p))
 
@@ -592,12 +514,6 @@ from_Order keys p b sets given outer rows h = out (L.Order keys p) _ (P.rolls-Or
 pub faults-Order : (keys : List OrderKey) (p : Plan) (sets : Sets) (given : List Var) (outer : List Env) (what : Bytes) → Faults (P.Order keys p) sets given outer what ≡ FaultLayer (L.Order keys p) sets given outer what
 faults-Order keys p sets given outer what = ap (λ (f : Faulting). f sets given outer what) (rolled_faults (L.Order keys p) _ (P.rolls-Order keys p))
 
-pub each-Order : (keys : List OrderKey) (p : Plan) (inside : Bool) (given : List Var) → FitsEach (P.Order keys p) inside given ≡ EachLayer (L.Order keys p) inside given
-each-Order keys p inside given = ap (λ (f : Fitting). f inside given) (rolled_each (L.Order keys p) _ (P.rolls-Order keys p))
-
-pub narrow-Order : (keys : List OrderKey) (p : Plan) (given : List Var) → Narrow (P.Order keys p) given ≡ NarrowLayer (L.Order keys p) given
-narrow-Order keys p given = ap (λ (f : List Var → Type 0). f given) (rolled_narrow (L.Order keys p) _ (P.rolls-Order keys p))
-
 pub live-Order : (keys : List OrderKey) (p : Plan) (given : List Var) → live (P.Order keys p) given ≡ live p given
 live-Order keys p given = ap (λ (f : List Var → List Var). f given) (ap live (sym (P.rolls-Order keys p)) ∙ live-roll (L.Order keys p))
 
@@ -621,12 +537,6 @@ from_Limit n k p b sets given outer rows h = out (L.Limit n k p) _ (P.rolls-Limi
 
 pub faults-Limit : (n k : ℕ) (p : Plan) (sets : Sets) (given : List Var) (outer : List Env) (what : Bytes) → Faults (P.Limit n k p) sets given outer what ≡ FaultLayer (L.Limit n k p) sets given outer what
 faults-Limit n k p sets given outer what = ap (λ (f : Faulting). f sets given outer what) (rolled_faults (L.Limit n k p) _ (P.rolls-Limit n k p))
-
-pub each-Limit : (n k : ℕ) (p : Plan) (inside : Bool) (given : List Var) → FitsEach (P.Limit n k p) inside given ≡ EachLayer (L.Limit n k p) inside given
-each-Limit n k p inside given = ap (λ (f : Fitting). f inside given) (rolled_each (L.Limit n k p) _ (P.rolls-Limit n k p))
-
-pub narrow-Limit : (n k : ℕ) (p : Plan) (given : List Var) → Narrow (P.Limit n k p) given ≡ NarrowLayer (L.Limit n k p) given
-narrow-Limit n k p given = ap (λ (f : List Var → Type 0). f given) (rolled_narrow (L.Limit n k p) _ (P.rolls-Limit n k p))
 
 pub live-Limit : (n k : ℕ) (p : Plan) (given : List Var) → live (P.Limit n k p) given ≡ live p given
 live-Limit n k p given = ap (λ (f : List Var → List Var). f given) (ap live (sym (P.rolls-Limit n k p)) ∙ live-roll (L.Limit n k p))
@@ -655,23 +565,11 @@ faults-Check name c p sets given outer what = ap (λ (f : Faulting). f sets give
 pub each-Check : (name : Bytes) (c : Expr) (p : Plan) (inside : Bool) (given : List Var) → FitsEach (P.Check name c p) inside given ≡ EachLayer (L.Check name c p) inside given
 each-Check name c p inside given = ap (λ (f : Fitting). f inside given) (rolled_each (L.Check name c p) _ (P.rolls-Check name c p))
 
-pub narrow-Check : (name : Bytes) (c : Expr) (p : Plan) (given : List Var) → Narrow (P.Check name c p) given ≡ NarrowLayer (L.Check name c p) given
-narrow-Check name c p given = ap (λ (f : List Var → Type 0). f given) (rolled_narrow (L.Check name c p) _ (P.rolls-Check name c p))
-
 pub live-Check : (name : Bytes) (c : Expr) (p : Plan) (given : List Var) → live (P.Check name c p) given ≡ live p given
 live-Check name c p given = ap (λ (f : List Var → List Var). f given) (ap live (sym (P.rolls-Check name c p)) ∙ live-roll (L.Check name c p))
 
 pub ordered-Check : (name : Bytes) (c : Expr) (p : Plan) → ordered (P.Check name c p) ≡ ordered_step (map-Plan Plan (Bool) ordered (L.Check name c p))
 ordered-Check name c p = ap ordered (sym (P.rolls-Check name c p)) ∙ ordered-roll (L.Check name c p)
-
-pub scans-Check : (name : Bytes) (c : Expr) (p : Plan) → scans (P.Check name c p) ≡ scans_step (map-Plan Plan (List Scan) scans (L.Check name c p))
-scans-Check name c p = ap scans (sym (P.rolls-Check name c p)) ∙ scans-roll (L.Check name c p)
-
-pub makes-Check : (name : Bytes) (c : Expr) (p : Plan) → makes (P.Check name c p) ≡ makes_step (map-Plan Plan (List Var) makes (L.Check name c p))
-makes-Check name c p = ap makes (sym (P.rolls-Check name c p)) ∙ makes-roll (L.Check name c p)
-
-pub result-Check : (name : Bytes) (c : Expr) (p : Plan) → result_of (P.Check name c p) ≡ None
-result-Check name c p = ap result_of (sym (P.rolls-Check name c p)) ∙ result-roll (L.Check name c p)
 
 pub allows_Result : (vars : List Var) (p : Plan) (b : Bool) (sets : Sets) (given : List Var) (outer rows : List Env) → Layer (L.Result vars p) b sets given outer rows → Allows (P.Result vars p) b sets given outer rows
 allows_Result vars p b sets given outer rows h = into (L.Result vars p) _ (P.rolls-Result vars p) b sets given outer rows h
@@ -681,12 +579,6 @@ from_Result vars p b sets given outer rows h = out (L.Result vars p) _ (P.rolls-
 
 pub faults-Result : (vars : List Var) (p : Plan) (sets : Sets) (given : List Var) (outer : List Env) (what : Bytes) → Faults (P.Result vars p) sets given outer what ≡ FaultLayer (L.Result vars p) sets given outer what
 faults-Result vars p sets given outer what = ap (λ (f : Faulting). f sets given outer what) (rolled_faults (L.Result vars p) _ (P.rolls-Result vars p))
-
-pub each-Result : (vars : List Var) (p : Plan) (inside : Bool) (given : List Var) → FitsEach (P.Result vars p) inside given ≡ EachLayer (L.Result vars p) inside given
-each-Result vars p inside given = ap (λ (f : Fitting). f inside given) (rolled_each (L.Result vars p) _ (P.rolls-Result vars p))
-
-pub narrow-Result : (vars : List Var) (p : Plan) (given : List Var) → Narrow (P.Result vars p) given ≡ NarrowLayer (L.Result vars p) given
-narrow-Result vars p given = ap (λ (f : List Var → Type 0). f given) (rolled_narrow (L.Result vars p) _ (P.rolls-Result vars p))
 
 pub live-Result : (vars : List Var) (p : Plan) (given : List Var) → live (P.Result vars p) given ≡ vars
 live-Result vars p given = ap (λ (f : List Var → List Var). f given) (ap live (sym (P.rolls-Result vars p)) ∙ live-roll (L.Result vars p))

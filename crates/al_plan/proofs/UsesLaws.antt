@@ -3,7 +3,7 @@ use Rattle.std.proofs.Common.{true, false, not, Bool, ◌≡◌, ℕ, List, [], 
 use Rattle.std.proofs.Math.Seq.{take-suc}
 use Rattle.std.proofs.lemmas.Grind.{flat_map-append}
 use Rattle.std.specs.Prelude.{nat_eq, if◌then◌else◌, ◌&&◌, ◌||◌}
-use Rattle.std.specs.List.{flat_map, list_any}
+use Rattle.std.specs.List.{flat_map}
 use Rattle.std.specs.Cmp.Lexicographic.{pointwise, same_text}
 use Rattle.al_value.specs.declared.value.Value.{Value}
 use Rattle.al_func.specs.declared.func.Func.{Func}
@@ -92,9 +92,6 @@ old_hides seen q other old = hidden (pointwise nat_eq q other) refl where
   hidden : (b : Bool) → pointwise nat_eq q other ≡ b → is_new seen other ≡ (not b && is_new seen other)
   hidden true same = ap not (subst (λ o. is_among seen o ≡ true) (same_text q other (sym same)) old)
   hidden false e = refl
-
-other_than : Bytes → Bytes → Bool
-other_than q other = not (pointwise nat_eq q other)
 
 with_first : (seen : List Var) (q : Bytes) (xs : List Bytes) (b : Bool) → is_among seen q ≡ b → filter (is_new seen) (q ∷ xs) ≡ cond (not b) (q ∷ filter (is_new seen) xs) (filter (is_new seen) xs)
 with_first seen q xs b e = ap (λ c. cond (not c) (q ∷ filter (is_new seen) xs) (filter (is_new seen) xs)) e

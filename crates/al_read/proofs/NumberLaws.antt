@@ -1,12 +1,9 @@
 -- The number of a token.
-use Rattle.std.proofs.Common.{◌≡◌, ℕ, Bool, true, false, ◌&&◌, List, [], ◌∷◌, Result, Ok, Err, ℤ, refl, sym, ap, ◌∙◌, inl, inr}
+use Rattle.std.proofs.Common.{◌≡◌, ℕ, List, Ok, Err, ℤ, refl, inl, inr}
 use Rattle.std.proofs.lemmas.Bool.{cases_Bool}
-use Rattle.al_value.specs.declared.value.Value.{Value}
 use Rattle.al_value.specs.declared.value.Value.TheVariants as V
-use Rattle.al_csv.specs.declared.refused.DataKind.{DataKind}
 use Rattle.al_csv.specs.declared.refused.DataKind.TheVariants as bad
-use Rattle.al_csv.specs.Fields.{int_of, is_digits, fits_int, without_sign, int_field}
-use Rattle.al_read.specs.declared.plan.reader.Stopped.{Stopped}
+use Rattle.al_csv.specs.Fields.{int_of, int_field}
 use Rattle.al_read.specs.declared.plan.reader.Stopped.TheVariants as stops
 use Rattle.al_read.specs.PlanReading.{is_int, int_of_digits}
 

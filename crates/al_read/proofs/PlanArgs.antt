@@ -1,24 +1,21 @@
 -- What operators hold beside their inputs.
-use Rattle.std.proofs.Common.{◌≡◌, ℕ, Bool, true, false, ◌&&◌, List, [], ◌∷◌, ◌++◌, map, pos, refl, sym, ap, subst, ◌∙◌, append_assoc, codes}
+use Rattle.std.proofs.Common.{◌≡◌, ℕ, Bool, true, false, ◌&&◌, List, [], ◌∷◌, ◌++◌, map, refl, sym, ap, subst, ◌∙◌, append_assoc, codes}
 use Rattle.std.specs.List.{flat_map, list_all}
 use Rattle.std.proofs.lemmas.List.{append-nil}
 use Rattle.std.proofs.lemmas.Bool.{and_from, and_parts}
 use Rattle.al_agg.specs.declared.agg.Agg.{Agg}
 use Rattle.al_agg.specs.declared.agg.Agg.TheVariants as A
-use Rattle.al_csv.specs.declared.decl.Column.{Column}
-use Rattle.al_plan.specs.declared.expr.Var.{Var}
 use Rattle.al_plan.specs.declared.expr.Expr.{Expr}
-use Rattle.al_plan.specs.declared.plan.OrderKey.{OrderKey}
 use Rattle.al_plan.specs.declared.plan.AggCall.{AggCall}
 use Rattle.al_plan.specs.declared.plan.AggCall.TheVariants as C
 use Rattle.al_plan.specs.declared.plan.Generator.{Generator}
 use Rattle.al_plan.specs.declared.plan.Generator.TheVariants as G
 use Rattle.al_plan.specs.Names.{item_exprs, agg_exprs}
-use Rattle.al_plan.specs.Grammar.{Word, Open, Close, Name, Marked, plain, enclosed, variable, expr_words, expr_fits, variables, call_words, agg_words, generator_words, assigned_words, aggregated_words, key_words, order_words, column_words}
-use Rattle.al_read.specs.PlanReading.{State, Outcome, Read, ◌>>=◌, open_at, close_at, list_at, filled_at, expr_at, agg_args_at, agg_at, generated, generator_at, assigned_at, aggregated_at, key_at, order_at, variables_at, variable_at, column_at}
-use Rattle.al_read.proofs.PlanForms.{Forms, Taken, itself, done, skip, keep, shaped, mapped, AllFit, Filled, list_form, filled_form, starts, bind_read, read_value, read_state, taken_append, taken_split, ready_after}
+use Rattle.al_plan.specs.Grammar.{Open, Close, Name, Marked, plain, variable, expr_words, expr_fits, variables, call_words, agg_words, generator_words, assigned_words, aggregated_words, key_words, order_words, column_words}
+use Rattle.al_read.specs.PlanReading.{State, Outcome, Read, ◌>>=◌, close_at, list_at, filled_at, agg_args_at, agg_at, generated, generator_at, assigned_at, aggregated_at, key_at, order_at, variables_at, variable_at, column_at}
+use Rattle.al_read.proofs.PlanForms.{Forms, Taken, itself, done, skip, keep, shaped, mapped, AllFit, Filled, list_form, filled_form, bind_read, read_value, read_state, taken_append, taken_split, ready_after}
 use Rattle.al_read.proofs.PlanWords.{opens_form, closes_form, variable_form, agg_form, agg_name, split_form, split_name, direction_form, name_form, kind_form}
-use Rattle.al_read.proofs.PlanItems.{Fits, expr_form, all_from, all_to}
+use Rattle.al_read.proofs.PlanItems.{Fits, expr_form}
 
 pub flat_single : {X : Type 0} (f : X → Marked) (xs : List X) → flat_map (λ x. f x ∷ []) xs ≡ map f xs
 flat_single f [] = refl

@@ -1,21 +1,14 @@
 -- Operators, plans and files.
-use Rattle.std.proofs.Common.{◌≡◌, ℕ, zero, suc, ◌<◌, ◌≤◌, Bool, true, false, ◌&&◌, List, [], ◌∷◌, ◌++◌, map, length, Option, Some, None, pos, refl, sym, ap, subst, ◌∙◌, append_assoc, codes, arith}
+use Rattle.std.proofs.Common.{◌≡◌, ℕ, Bool, true, ◌&&◌, List, [], ◌∷◌, ◌++◌, refl, sym, ap}
 use Rattle.std.specs.List.{flat_map, list_all}
-use Rattle.std.proofs.lemmas.List.{append-nil}
-use Rattle.std.proofs.lemmas.Bool.{false≢true, and_from, and_parts}
-use Rattle.al_csv.specs.declared.decl.Column.{Column}
-use Rattle.al_csv.specs.declared.decl.Decl.{Decl}
+use Rattle.std.proofs.lemmas.Bool.{and_from, and_parts}
 use Rattle.al_plan.specs.declared.expr.Var.{Var}
 use Rattle.al_plan.specs.declared.expr.Expr.{Expr}
 use Rattle.al_plan.specs.declared.plan.OrderKey.{OrderKey}
 use Rattle.al_plan.specs.declared.plan.AggCall.{AggCall}
 use Rattle.al_plan.specs.declared.plan.Generator.{Generator}
-use Rattle.al_plan.specs.declared.plan.Plan.{Plan, roll-Plan, map-Plan, ind-Plan, fold-roll-Plan, rec-roll-Plan}
-use Rattle.al_plan.specs.declared.plan.Plan.TheVariants as P
-use Rattle.al_plan.specs.declared.plan.Plan.TheOpen as L
-use Rattle.al_plan.specs.declared.file.PlanFile.{PlanFile}
 use Rattle.al_plan.specs.Names.{item_exprs, agg_exprs}
-use Rattle.al_plan.specs.Grammar.{Word, Open, Close, Name, Text, Mark, Dataset, Operator, Other, Marked, plain, enclosed, headed, operator, variable, expr_words, expr_fits, variables, generator_words, assigned_words, aggregated_words, key_words, order_words, column_words, count_word, count_fits, is_filled, plan_words, plan_words_step, plan_fits, plan_fits_step, IsRoot, root_step, dataset_words, file_words, CanBeWritten}
+use Rattle.al_plan.specs.Grammar.{Open, Name, Marked, plain, enclosed, variable, expr_words, expr_fits, variables, generator_words, assigned_words, aggregated_words, key_words, order_words, count_word, count_fits, is_filled}
 use Rattle.al_read.specs.declared.plan.words.Op.{Op}
 use Rattle.al_read.specs.declared.plan.words.Op.TheVariants as op
 use Rattle.al_read.specs.declared.plan.words.LeafOp.{LeafOp}
@@ -32,11 +25,11 @@ use Rattle.al_read.specs.declared.plan.head.One.{One}
 use Rattle.al_read.specs.declared.plan.head.One.TheVariants as O
 use Rattle.al_read.specs.declared.plan.head.Two.{Two}
 use Rattle.al_read.specs.declared.plan.head.Two.TheVariants as T
-use Rattle.al_read.specs.PlanReading.{State, Outcome, Read, Stops, ◌>>=◌, open_at, close_at, filled_at, variable_at, expr_at, assigned_at, aggregated_at, key_at, order_at, variables_at, generator_at, name_at, text_at, count_at, scan_args_at, assign_args_at, unnest_args_at, aggregate_args_at, order_args_at, limit_args_at, check_args_at, group_args_at, union_args_at, leaf_args_at, one_args_at, two_args_at, args_at, head_at, plan_of, over, over_both, begin_at, place_at, inputs_at, plan_at}
-use Rattle.al_read.proofs.PlanForms.{Forms, Ready, Taken, itself, done, skip, nest, keep, shaped, mapped, AllFit, Filled, filled_form, starts, taken_length, bind_read, read_value, read_state}
+use Rattle.al_read.specs.PlanReading.{State, Outcome, assigned_at, aggregated_at, key_at, order_at, scan_args_at, assign_args_at, unnest_args_at, aggregate_args_at, order_args_at, limit_args_at, check_args_at, group_args_at, union_args_at, leaf_args_at, one_args_at, two_args_at, args_at, head_at}
+use Rattle.al_read.proofs.PlanForms.{Forms, itself, done, skip, keep, shaped, mapped, Filled, filled_form}
 use Rattle.al_read.proofs.PlanWords.{opens_form, closes_form, variable_form, name_form, text_form, count_form, op_form, op_name}
 use Rattle.al_read.proofs.PlanItems.{Fits, expr_form, all_from, all_to}
-use Rattle.al_read.proofs.PlanArgs.{variables_form, some_vars_form, assigned_form, aggregated_form, key_form, order_form, generator_form, closed, all_always}
+use Rattle.al_read.proofs.PlanArgs.{variables_form, assigned_form, aggregated_form, key_form, order_form, generator_form, all_always}
 
 -- ---- what an operator is written with, beside its inputs
 

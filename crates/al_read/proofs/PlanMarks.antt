@@ -1,13 +1,11 @@
 -- The marks of words are told by the words, but for that of the last parenthesis where a dataset or the root may begin.
-use Rattle.std.proofs.Common.{◌≡◌, ℕ, zero, suc, ◌+◌, ◌≤◌, Bool, true, false, ◌&&◌, ◌⊎◌, inl, inr, List, [], ◌∷◌, ◌++◌, length, map, Option, Some, None, Result, Ok, Err, ℤ, refl, sym, ap, subst, ◌∙◌, append_assoc, codes, arith}
-use Rattle.std.specs.Prelude.{if◌then◌else◌}
+use Rattle.std.proofs.Common.{◌≡◌, suc, ◌+◌, ◌≤◌, Bool, true, false, ◌&&◌, ◌⊎◌, inl, inr, List, [], ◌∷◌, ◌++◌, Option, Some, None, Result, Ok, Err, refl, sym, ap, subst, ◌∙◌, codes, arith}
 use Rattle.std.specs.Str.{bytes_eq}
 use Rattle.std.proofs.lemmas.Bool.{false≢true, and_from, and_parts}
 use Rattle.al_func.specs.Func.{is_i64}
 use Rattle.al_agg.specs.declared.agg.Agg.{Agg}
 use Rattle.al_agg.specs.declared.agg.Agg.TheVariants as A
-use Rattle.al_plan.specs.declared.expr.Expr.{Expr}
-use Rattle.al_plan.specs.Grammar.{Word, Open, Close, Name, Variable, Number, Text, Mark, Dataset, Operator, Other, Marked, plain}
+use Rattle.al_plan.specs.Grammar.{Word, Open, Close, Name, Variable, Number, Text, Mark, Dataset, Operator, Other, Marked}
 use Rattle.al_read.specs.declared.plan.reader.Stopped.{Stopped}
 use Rattle.al_read.specs.declared.plan.words.Op.{Op}
 use Rattle.al_read.specs.declared.plan.words.Op.TheVariants as op
@@ -16,7 +14,7 @@ use Rattle.al_read.specs.declared.plan.words.OneOp.TheVariants as one
 use Rattle.al_read.specs.declared.plan.words.TwoOp.TheVariants as two
 use Rattle.al_read.specs.Reads.{unmarked, operators_in}
 use Rattle.al_read.specs.PlanReading.{func_named, agg_named, second_of, kind_named, literal_named, op_named}
-use Rattle.al_read.proofs.PlanMachine.{Sym, AnOpen, AClose, ATitle, AVersion, AName, AFile, AKind, AVar, AFunc, AnAgg, AGen, ADir, ACount, AnExpr, Args, Vars, Cols, Assigns, Aggs, Keys, Orders, APlan, AnOp, Parts, APart, ◌>>-◌, run, step, on_top, on, turn, expr_turn, marked_turn, part_turn, part_lead, marked_part, lead, when, ok_lead, then_sym, is_count, is_version, agg_syms, op_syms, root_syms, dataset_syms}
+use Rattle.al_read.proofs.PlanMachine.{Sym, AnOpen, AClose, ATitle, AVersion, AName, AFile, AKind, AVar, AFunc, AnAgg, AGen, ADir, ACount, AnExpr, Args, Vars, Cols, Assigns, Aggs, Keys, Orders, APlan, AnOp, Parts, APart, ◌>>-◌, run, step, on_top, on, expr_turn, marked_turn, part_turn, part_lead, marked_part, lead, when, ok_lead, then_sym, is_count, is_version, agg_syms, op_syms, root_syms, dataset_syms}
 use Rattle.al_read.proofs.PlanHalts.{file_syms}
 
 -- ---- behind the root no dataset may come

@@ -1,28 +1,24 @@
 -- The file of all tokens is the one whose words they are.
-use Rattle.std.proofs.Common.{◌≡◌, ℕ, zero, suc, ◌+◌, ◌-◌, ◌<◌, ◌≤◌, Bool, true, false, ◌⊎◌, inl, inr, List, [], ◌∷◌, ◌++◌, length, map, take, drop, Option, Some, None, Result, Ok, Err, refl, sym, ap, subst, ◌∙◌, arith}
-use Rattle.std.specs.Prelude.{if◌then◌else◌, nat_lt, slice_index, MatchResult}
+use Rattle.std.proofs.Common.{◌≡◌, ℕ, suc, ◌+◌, ◌-◌, ◌≤◌, false, inl, inr, List, [], ◌∷◌, ◌++◌, length, take, drop, Option, None, Result, Ok, Err, refl, sym, ap, subst, ◌∙◌, arith}
+use Rattle.std.specs.Prelude.{nat_lt, MatchResult}
 use Rattle.std.proofs.lemmas.List.{append-nil, take-append-drop, map-append}
-use Rattle.std.proofs.lemmas.Bool.{cases_Bool, false≢true}
+use Rattle.std.proofs.lemmas.Bool.{cases_Bool}
 use Rattle.std.proofs.lemmas.Bool.Decides.{nat_tests}
 use Rattle.al_plan.specs.declared.file.PlanFile.{PlanFile}
 use Rattle.al_plan.specs.declared.file.RefusedKind.{RefusedKind}
-use Rattle.al_plan.specs.declared.file.RefusedKind.TheVariants as kind
-use Rattle.al_plan.specs.Grammar.{Word, Marked, Mark, Operator, Dataset, Other, Open, file_words, CanBeWritten}
+use Rattle.al_plan.specs.Grammar.{Marked, Operator, Dataset, Other, file_words, CanBeWritten}
 use Rattle.al_read.specs.declared.token.Placed.{Placed}
 use Rattle.al_read.specs.declared.plan.operator.Parts.{Parts}
 use Rattle.al_read.specs.declared.plan.ReadRefused.{ReadRefused}
 use Rattle.al_read.specs.declared.plan.ReadRefused.TheVariants as refused
-use Rattle.al_read.specs.declared.plan.reader.Reader.{Reader}
-use Rattle.al_read.specs.declared.plan.reader.Stopped.{Stopped}
-use Rattle.al_read.specs.declared.plan.reader.Stopped.TheVariants as stops
 use Rattle.al_read.specs.Tokens.{IsPlanText, IsTokens}
-use Rattle.al_read.specs.Reads.{said, words_of, unmarked, is_dataset, is_operator, places_of, operators_in, IsShallow, IsTooDeep, Reads, refusal, Refuses, form}
-use Rattle.al_read.specs.PlanReading.{State, Outcome, Read, Stops, start, shallow_len, large_of, or_large, unless_large, whole_of, stopped_with, kind_stopped, refused_with, file_with, answer_of, file_of_tokens, file_at, Answers, Gives, IsAnswered}
+use Rattle.al_read.specs.Reads.{said, words_of, unmarked, is_dataset, is_operator, places_of, operators_in, IsShallow, Reads, Refuses, form}
+use Rattle.al_read.specs.PlanReading.{State, Outcome, Read, Stops, start, shallow_len, large_of, or_large, unless_large, whole_of, stopped_with, kind_stopped, file_with, answer_of, file_of_tokens, file_at, Answers}
 use Rattle.al_read.proofs.Readings.{one}
 use Rattle.al_read.proofs.PlanRefuses.{file_stops}
-use Rattle.al_read.proofs.PlanForms.{Forms, Ready, Taken, AreSound}
+use Rattle.al_read.proofs.PlanForms.{Ready, Taken, AreSound}
 use Rattle.al_read.proofs.PlanWhole.{whole_form, parts_words, PartsFit}
-use Rattle.al_read.proofs.PlanText.{Told, told, all_taken, sound_take, sound_tokens, front_shallow, behind_deep}
+use Rattle.al_read.proofs.PlanText.{told, all_taken, sound_tokens, front_shallow, behind_deep}
 
 -- what a file is of its tokens
 pub record IsFileOf (tokens : List Placed) (f : PlanFile) : Type 0 where

@@ -1,10 +1,10 @@
 -- Where a text goes wrong: what stands in front of it is the beginning of some file, and no file goes on so.
-use Rattle.std.proofs.Common.{◌≡◌, ℕ, zero, suc, ◌<◌, ◌≤◌, Bool, true, false, ◌&&◌, List, [], ◌∷◌, ◌++◌, length, map, take, drop, Option, Some, None, Result, Ok, Err, ℤ, pos, refl, sym, ap, subst, ◌∙◌, inl, inr, append_assoc, codes, arith}
-use Rattle.std.specs.Prelude.{if◌then◌else◌, nat_lt, slice_index}
+use Rattle.std.proofs.Common.{◌≡◌, ℕ, zero, suc, ◌<◌, ◌≤◌, Bool, true, false, ◌&&◌, List, [], ◌∷◌, ◌++◌, length, take, drop, Option, Some, None, Result, Err, ℤ, pos, refl, sym, ap, subst, ◌∙◌, inl, inr, append_assoc, codes, arith}
+use Rattle.std.specs.Prelude.{nat_lt, slice_index}
 use Rattle.std.proofs.lemmas.List.{append-nil, map-append, take-append-drop}
 use Rattle.std.proofs.lemmas.Bool.{cases_Bool, false≢true, and_parts, ltb-true}
 use Rattle.std.proofs.lemmas.Bool.Decides.{nat_tests}
-use Rattle.al_csv.specs.Fields.{number_of, int_of}
+use Rattle.al_csv.specs.Fields.{number_of}
 use Rattle.al_plan.specs.declared.file.PlanFile.{PlanFile}
 use Rattle.al_plan.specs.declared.file.Refused.{Refused}
 use Rattle.al_plan.specs.declared.file.RefusedKind.{RefusedKind}
@@ -16,16 +16,15 @@ use Rattle.al_read.specs.declared.plan.ReadRefused.{ReadRefused}
 use Rattle.al_read.specs.declared.plan.ReadRefused.TheVariants as refused
 use Rattle.al_read.specs.declared.plan.reader.Stopped.{Stopped}
 use Rattle.al_read.specs.declared.plan.reader.Stopped.TheVariants as stops
-use Rattle.al_read.specs.Reads.{said, words_of, unmarked, open_behind, IsTooDeep, IsShallow, Begins, CanStand, IsWhole, IsOutOfRange, IsMisplaced, IsCause, IsOneTooMany, IsRefusedAt, place_of, places_of, is_operator, operators_in, refusal}
-use Rattle.al_read.specs.PlanReading.{State, Outcome, Read, Stops, start, shallow_len, large_of, unless_large, whole_of, stopped_with, kind_stopped, refused_with, answer_of, file_of_tokens, file_at}
+use Rattle.al_read.specs.Reads.{said, words_of, unmarked, IsTooDeep, IsShallow, Begins, CanStand, IsWhole, IsOutOfRange, IsMisplaced, IsCause, IsRefusedAt, places_of, is_operator, operators_in, refusal}
+use Rattle.al_read.specs.PlanReading.{State, Outcome, Read, Stops, start, shallow_len, unless_large, whole_of, stopped_with, kind_stopped, refused_with, answer_of, file_of_tokens, file_at}
 use Rattle.al_read.proofs.PlanForms.{Ready, Taken, AreSound, noted}
 use Rattle.al_read.proofs.PlanWhole.{parts_words, PartsFit}
 use Rattle.al_read.proofs.PlanText.{told, sound_take, front_shallow, behind_deep}
-use Rattle.al_read.proofs.PlanMachine.{Sym, ◌>>-◌, run, run_append, run_on, step, on_top, on, turn, is_none, refuses, takes_numbers, is_number_word, Fated, Stuck, Halted}
-use Rattle.al_read.proofs.PlanPaces.{Paces}
+use Rattle.al_read.proofs.PlanMachine.{Sym, ◌>>-◌, run, run_append, run_on, on_top, on, turn, is_none, refuses, takes_numbers, is_number_word, Stuck}
 use Rattle.al_read.proofs.PlanHalts.{file_syms, whole_pace}
 use Rattle.al_read.proofs.PlanMarks.{SameMarks, alike, forked, same_marks, none_begun, at_open, one_operator, same_fronts}
-use Rattle.al_read.proofs.PlanCompletes.{word_step, word_run, word_run_on, Alike, AlikeSym, none, more, alike_refl, refuses_alike, Follows, follows, number_token, all_completed, all_sound, all_complete, no_numbers, one_stands}
+use Rattle.al_read.proofs.PlanCompletes.{word_step, word_run, word_run_on, Alike, AlikeSym, none, more, alike_refl, refuses_alike, follows, number_token, all_completed, all_sound, all_complete, no_numbers, one_stands}
 
 -- ---- files and their words
 

@@ -1,20 +1,20 @@
 -- From words to tokens: what the words between two states are, which tokens a text has, and where a parenthesis opens too deep.
-use Rattle.std.proofs.Common.{◌≡◌, ℕ, zero, suc, ◌+◌, ◌-◌, ◌<◌, ◌≤◌, ◌==◌, Bool, true, false, ◌&&◌, ◌⊎◌, inl, inr, List, [], ◌∷◌, ◌++◌, length, map, take, drop, Option, Some, None, refl, sym, ap, subst, ◌∙◌, append_assoc, arith}
-use Rattle.std.specs.Prelude.{if◌then◌else◌, nat_lt, ◌||◌}
+use Rattle.std.proofs.Common.{◌≡◌, ℕ, zero, suc, ◌+◌, ◌-◌, ◌≤◌, ◌==◌, Bool, true, false, ◌&&◌, inl, inr, List, [], ◌∷◌, ◌++◌, length, take, drop, refl, sym, ap, subst, ◌∙◌, append_assoc, arith}
+use Rattle.std.specs.Prelude.{nat_lt}
 use Rattle.std.specs.Char.{is_ascii_digit}
 use Rattle.std.specs.List.{list_all}
 use Rattle.std.specs.Str.{all_ascii_digits}
 use Rattle.std.proofs.lemmas.List.{append-nil}
-use Rattle.std.proofs.lemmas.Bool.{cases_Bool, false≢true, and_from, and_parts, eqb-true, ltb-true}
+use Rattle.std.proofs.lemmas.Bool.{cases_Bool, false≢true, and_parts, ltb-true}
 use Rattle.std.proofs.lemmas.Bool.Decides.{nat_tests}
 use Rattle.al_csv.specs.Fields.{is_digits, without_sign}
-use Rattle.al_plan.specs.Grammar.{Word, Open, Close, Name, Variable, Number, Text, Mark, Dataset, Operator, Other, Marked, plain}
+use Rattle.al_plan.specs.Grammar.{Word, Open, Close, Name, Number, Mark, Dataset, Operator, Other, Marked}
 use Rattle.al_read.specs.declared.token.Token.{Token}
 use Rattle.al_read.specs.declared.token.Token.TheVariants as kinds
 use Rattle.al_read.specs.declared.token.Placed.{Placed}
-use Rattle.al_read.specs.Tokens.{is_name, is_number, are_digits, IsTokenText, IsNext, AreFirst, IsTokens}
+use Rattle.al_read.specs.Tokens.{is_name, is_number, are_digits, IsTokenText, AreFirst, IsTokens}
 use Rattle.al_read.specs.Reads.{said, words_of, unmarked, is_dataset, is_operator, places_of, open_behind, IsTooDeep, IsShallow}
-use Rattle.al_read.specs.PlanReading.{State, behind, with_operator, with_dataset, depth_behind, count_behind, shallow_len}
+use Rattle.al_read.specs.PlanReading.{State, behind, depth_behind, count_behind, shallow_len}
 use Rattle.al_read.proofs.PlanForms.{Taken, noted, IsSound, AreSound}
 
 -- ---- the words between two states

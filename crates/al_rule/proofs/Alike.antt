@@ -1,12 +1,11 @@
 -- Plans that are alike but for the lists that they allow.
-use Rattle.std.proofs.Common.{◌≡◌, ◌⊎◌, ℕ, Bool, List, [], ◌∷◌, ◌++◌, map, refl, ap, sym, subst, ◌∙◌, None}
+use Rattle.std.proofs.Common.{◌≡◌, ◌⊎◌, Bool, List, [], ◌∷◌, ◌++◌, map, refl, ap, sym, subst, ◌∙◌, None}
 use Rattle.std.specs.List.{All, Contains}
 use Rattle.std.specs.List.Sorted.{IsPermutation}
 use Rattle.std.proofs.lemmas.List.Elements.{All-contains_itself}
 use Rattle.std.proofs.lemmas.List.Sorted.{IsPermutation-refl}
 use Rattle.al_plan.specs.declared.expr.Var.{Var}
 use Rattle.al_plan.specs.declared.expr.Expr.{Expr}
-use Rattle.al_plan.specs.declared.plan.AggCall.{AggCall}
 use Rattle.al_plan.specs.declared.plan.Generator.{Generator}
 use Rattle.al_plan.specs.declared.plan.OrderKey.{OrderKey}
 use Rattle.al_plan.specs.declared.plan.Plan.{Plan}
@@ -14,7 +13,7 @@ use Rattle.al_plan.specs.declared.plan.Plan.TheVariants as P
 use Rattle.al_plan.specs.Eval.{Bytes, Env}
 use Rattle.al_plan.specs.Allows.{Sets, Allows, Faults, live, ordered}
 use Rattle.al_plan.specs.Refines.{Scan, scans, makes, Fit, Fills, Refines, Replaces, result_of}
-use Rattle.al_plan.proofs.PlanLaws.{live-Assign, ordered-Assign, scans-Assign, makes-Assign, result-Assign, faults-Assign, live-Select, ordered-Select, scans-Select, makes-Select, result-Select, faults-Select, live-Project, ordered-Project, scans-Project, makes-Project, result-Project, faults-Project, live-Unnest, ordered-Unnest, scans-Unnest, makes-Unnest, result-Unnest, faults-Unnest, live-Subplan, ordered-Subplan, scans-Subplan, makes-Subplan, result-Subplan, faults-Subplan, live-Group, ordered-Group, scans-Group, makes-Group, result-Group, faults-Group, live-Distinct, ordered-Distinct, scans-Distinct, makes-Distinct, result-Distinct, faults-Distinct, live-Aggregate, ordered-Aggregate, scans-Aggregate, makes-Aggregate, result-Aggregate, faults-Aggregate, live-Order, ordered-Order, scans-Order, makes-Order, result-Order, faults-Order, live-Limit, ordered-Limit, scans-Limit, makes-Limit, result-Limit, faults-Limit, live-Join, ordered-Join, scans-Join, makes-Join, result-Join, faults-Join, live-LeftJoin, ordered-LeftJoin, scans-LeftJoin, makes-LeftJoin, result-LeftJoin, faults-LeftJoin}
+use Rattle.al_plan.proofs.PlanLaws.{live-Assign, ordered-Assign, scans-Assign, makes-Assign, result-Assign, faults-Assign, live-Select, ordered-Select, scans-Select, makes-Select, result-Select, faults-Select, live-Project, ordered-Project, scans-Project, makes-Project, result-Project, faults-Project, live-Unnest, ordered-Unnest, scans-Unnest, makes-Unnest, result-Unnest, faults-Unnest, live-Subplan, ordered-Subplan, scans-Subplan, makes-Subplan, result-Subplan, faults-Subplan, live-Distinct, ordered-Distinct, scans-Distinct, makes-Distinct, result-Distinct, faults-Distinct, live-Order, ordered-Order, scans-Order, makes-Order, result-Order, faults-Order, live-Join, ordered-Join, scans-Join, makes-Join, result-Join, faults-Join, live-LeftJoin, ordered-LeftJoin, scans-LeftJoin, makes-LeftJoin, result-LeftJoin, faults-LeftJoin}
 use Rattle.al_plan.proofs.Makes.{no_more-same}
 use Rattle.al_plan.proofs.Idle.{refines_here}
 

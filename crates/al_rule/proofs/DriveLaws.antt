@@ -9,7 +9,7 @@ use Rattle.al_rule.specs.declared.trace.Trace.{Trace}
 use Rattle.al_rule.specs.Places.{Applied}
 use Rattle.al_rule.specs.Rules.{Rules, IsLocal, IsLawful}
 use Rattle.al_rule.specs.Driven.{IsStep, Steps, Drove}
-use Rattle.al_rule.specs.Walks.{NoneBefore, NoneFrom, IsNext, Records, StepsTo, IsWalkStep, WalksTo, IsWalk, AreWalks, WalkedOnce, WalkedOut}
+use Rattle.al_rule.specs.Walks.{NoneBefore, NoneFrom, IsNext, StepsTo, IsWalkStep, WalksTo, IsWalk, AreWalks, WalkedOnce, WalkedOut}
 use Rattle.al_rule.proofs.PlaceLaws.{applied_replaces}
 use Rattle.al_rule.proofs.WalkLaws.{none_at_root, none_further, still_none}
 

@@ -9,7 +9,6 @@ use Rattle.al_plan.specs.declared.plan.OrderKey.{OrderKey}
 use Rattle.al_plan.specs.declared.plan.Plan.{Plan}
 use Rattle.al_plan.specs.declared.plan.Plan.TheVariants as P
 use Rattle.al_plan.specs.declared.plan.Plan.TheOpen as L
-use Rattle.al_plan.specs.Eval.{Bytes}
 use Rattle.al_plan.specs.Names.{agg_exprs, item_exprs}
 use Rattle.al_plan.specs.Allows.{live}
 use Rattle.al_plan.specs.Refines.{makes, Fit, NoTwice, IsOver, AreLive, AreOver, FitsEach, AtMost64, is_aggregate, result_of}

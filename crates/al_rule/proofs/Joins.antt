@@ -12,7 +12,6 @@ use Rattle.al_rule.specs.Pairs.{SplitsLeft, SplitsRight, IsBoth}
 use Rattle.al_plan.specs.Allows.{Sets, Allows, live, beside, nulls, matches, pairs, left_pairs, or_alone}
 use Rattle.al_plan.specs.Refines.{IsWithin}
 use Rattle.al_plan.proofs.PlanLaws.{allows_Select, allows_Join, allows_LeftJoin, from_Select, from_Join, from_LeftJoin, live-Select}
-use Rattle.al_plan.proofs.Moves.{IsPermutation-filter}
 use Rattle.al_plan.proofs.Orders.{filter-lift}
 use Rattle.al_plan.proofs.Within.{within}
 

@@ -11,7 +11,7 @@ use Rattle.al_plan.specs.Allows.{Sets, Allows, live}
 use Rattle.al_plan.specs.Refines.{makes, Fit, IsOver, Replaces, result_of}
 use Rattle.al_plan.proofs.PlanLaws.{live-Select, makes-Select, result-Assign, result-Select, result-Project, result-Unnest, result-Subplan, result-Join, result-LeftJoin, result-Distinct, result-Order}
 use Rattle.al_rule.proofs.Alike.{Alike, alike-refl, alike-sym, alike-trans, alike_select, alike_replaces, alike-Assign, alike-Project, alike-Unnest, alike-Subplan, alike-Join, alike-LeftJoin, alike-Distinct, alike-Order}
-use Rattle.al_rule.proofs.FitLaws.{in_Select, out_Select, out_Assign, out_Project, out_Unnest, out_Subplan, out_Join, out_LeftJoin, out_Distinct, out_Order, over_Assign, over_Project, over_Unnest, over_Subplan, over_Join_left, over_Join_right, over_LeftJoin_left, over_LeftJoin_right, over_Distinct, over_Order}
+use Rattle.al_rule.proofs.FitLaws.{in_Select, out_Select, out_Assign, out_Project, out_Unnest, out_Subplan, out_Join, out_LeftJoin, out_Distinct, out_Order, over_Assign, over_Project, over_Unnest, over_Subplan, over_Join_left, over_Join_right, over_LeftJoin_left, over_Distinct, over_Order}
 
 -- an operator that is no result, over one of its inputs
 pub record Operator (over : Plan → Plan) : Type 1 where

@@ -1,5 +1,5 @@
 -- An operator around one of its inputs: what holds of the input and of the whole plan.
-use Rattle.std.proofs.Common.{◌≡◌, ◌<◌, ℕ, zero, suc, Bool, true, false, List, [], ◌∷◌, Option, Some, None, refl, ap, sym, subst, ◌∙◌, arith}
+use Rattle.std.proofs.Common.{◌≡◌, ◌<◌, ℕ, zero, suc, Bool, true, false, List, [], ◌∷◌, Some, None, refl, ap, sym, subst, ◌∙◌, arith}
 use Rattle.std.specs.Prelude.{if◌then◌else◌}
 use Rattle.al_plan.specs.declared.expr.Var.{Var}
 use Rattle.al_plan.specs.declared.expr.Expr.{Expr}
@@ -13,8 +13,8 @@ use Rattle.al_plan.specs.Eval.{Bytes}
 use Rattle.al_plan.specs.Accept.{size, size_step}
 use Rattle.al_plan.specs.Refines.{Fit, Replaces}
 use Rattle.al_plan.proofs.Refine.{fit_inputs, replaces-refl, under_Assign, under_Select, under_Project, under_Unnest, under_Subplan, under_Join, under_LeftJoin, under_Group, under_Distinct, under_Union, under_Aggregate, under_Order, under_Limit, under_Check, under_Result}
-use Rattle.al_rule.specs.Places.{Rewriting, input, input_step, with_input, with_input_step, plan_at, and_then, Applied}
-use Rattle.al_rule.proofs.Operators.{rolls-out, out-Select}
+use Rattle.al_rule.specs.Places.{Rewriting, input, input_step, with_input, with_input_step, Applied}
+use Rattle.al_rule.proofs.Operators.{rolls-out}
 
 -- an operator without one of its inputs
 pub data Around : Type 0 where

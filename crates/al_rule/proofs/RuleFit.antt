@@ -1,23 +1,20 @@
 -- What a rule needs to show that its right side fits.
-use Rattle.std.proofs.Common.{◌≡◌, Bool, true, false, List, [], ◌∷◌, ◌++◌, ap, sym, subst, ◌∙◌}
-use Rattle.std.specs.Prelude.{if◌then◌else◌, ◌||◌}
+use Rattle.std.proofs.Common.{◌≡◌, Bool, false, List, [], ◌∷◌, ap, sym, subst}
+use Rattle.std.specs.Prelude.{if◌then◌else◌}
 use Rattle.std.specs.List.{AllByRecursion}
 use Rattle.al_value.specs.declared.value.Value.TheVariants as V
 use Rattle.al_plan.specs.declared.expr.Var.{Var}
 use Rattle.al_plan.specs.declared.expr.Expr.{Expr}
 use Rattle.al_plan.specs.declared.plan.Plan.{Plan, map-Plan, roll-Plan}
-use Rattle.al_plan.specs.declared.plan.Plan.TheVariants as P
 use Rattle.al_plan.specs.declared.plan.Plan.TheOpen as L
 use Rattle.al_plan.specs.Eval.{Bytes, Env, holds}
 use Rattle.al_plan.specs.Names.{names}
 use Rattle.al_func.specs.Func.{is_true}
-use Rattle.al_plan.specs.Allows.{is_among, cut, beside}
+use Rattle.al_plan.specs.Allows.{cut, beside}
 use Rattle.al_plan.specs.Refines.{makes, makes_step, Fit, NoTwice, AreAmong, AreLive}
 use Rattle.al_rule.proofs.ReadLaws.{eval-names}
 use Rattle.al_plan.proofs.Makes.{among_of}
 use Rattle.al_plan.proofs.PlanLaws.{EachLayer, each-roll, NarrowLayer, narrow-roll, makes-roll}
-use Rattle.al_plan.proofs.Within.{is_among-append}
-use Rattle.al_plan.proofs.Refine.{fit_inputs}
 
 -- what a plan that fits asks at its root
 pub record FitLayer (x : L.Plan-F Plan) : Type 0 where

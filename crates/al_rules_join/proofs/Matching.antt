@@ -11,7 +11,7 @@ use Rattle.al_plan.specs.declared.plan.Plan.TheOpen as L
 use Rattle.al_plan.specs.Refines.{Fit, Replaces}
 use Rattle.al_conj.specs.Conj.{both, conj, all_of, is_literal_true, Splits}
 use Rattle.al_rule.specs.Places.{Rewriting}
-use Rattle.al_rule.specs.Rules.{Matches, Decides, HandsBack}
+use Rattle.al_rule.specs.Rules.{Matches, Decides}
 use Rattle.al_rule.proofs.Operators.{out-Join, out-LeftJoin, out-Select}
 use Rattle.al_rules_join.specs.JoinRules.{is_of, reads_of, compares, IsNoJoin, IsNoLeftJoin, IsNoSelectOverLeftJoin, Rewritten, IsNot, outcome, SaysTrue, left_join_to_join, drop_true, join_cond_left, join_cond_right, left_join_cond_right}
 

@@ -1,8 +1,7 @@
 -- The last rule of the set.
 use Rattle.std.proofs.Common.{◌≡◌, ◌≢◌, ℕ, zero, suc, refl}
 use Rattle.al_rule.specs.declared.names.RuleName.TheVariants as N
-use Rattle.al_rules_join.specs.JoinRules.{left_join_cond_right}
-use Rattle.al_rules_join.specs.JoinSet.{join_name, join_rewrites}
+use Rattle.al_rules_join.specs.JoinSet.{join_name}
 
 pub last_name : (k : ℕ) → k ≢ 0 → k ≢ 1 → k ≢ 2 → k ≢ 3 → join_name k ≡ N.LeftJoinCondRight
 last_name zero a b c d = absurd (a refl)

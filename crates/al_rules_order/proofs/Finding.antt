@@ -1,5 +1,5 @@
 -- What the functions that find a rule's left side tell.
-use Rattle.std.proofs.Common.{◌≡◌, ◌<◌, ◌+◌, ◌-◌, ℕ, zero, suc, min, Bool, true, false, List, refl, ap, sym, subst, ◌∙◌, Option, Some, None, arith, le-leb, leb-true}
+use Rattle.std.proofs.Common.{◌≡◌, ◌<◌, ◌+◌, ◌-◌, ℕ, zero, suc, Bool, true, false, List, refl, ap, sym, subst, ◌∙◌, Option, Some, None, arith, le-leb}
 use Rattle.std.specs.Prelude.{MatchOption, IfOk, is_some, nat_le, Result, Ok, Err}
 use Rattle.al_value.specs.declared.fault.NoMemory.{NoMemory}
 use Rattle.al_plan.specs.declared.plan.OrderKey.{OrderKey}

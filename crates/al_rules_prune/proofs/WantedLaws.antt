@@ -23,10 +23,6 @@ use Rattle.al_rule.specs.Rules.{Decides}
 use Rattle.al_rule.specs.Reads.{ReadsNone}
 use Rattle.al_rules_prune.specs.Prunes.{all_among, read_by, read_by_aggregates}
 
-and_one : (b : Bool) → (b && true) ≡ b
-and_one true = refl
-and_one false = refl
-
 pub among-Scan : (vs : List Var) (set : Bytes) (vars : List Var) (given : List Var) → all_among vs (live (P.Scan set vars) given) ≡ (all_among vs vars)
 among-Scan vs set vars given = ap (all_among vs) (live-Scan set vars given)
 
