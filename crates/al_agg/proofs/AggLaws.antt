@@ -210,11 +210,6 @@ some_sum-append (m ∷ ms) [] = ap some_sum (append-nil (m ∷ ms))
 some_sum-append (m ∷ ms) (n ∷ ns) =
     ap Some (ap wrapped (total-append (m ∷ ms) (n ∷ ns)) ∙ sym (wrapped-add (total (m ∷ ms)) (total (n ∷ ns))))
 
-pub some_sum-one : (n : ℤ) → FitsSigned w128 n → some_sum (n ∷ []) ≡ Some n
-some_sum-one n fits =
-    let alone : n +ℤ pos 0 ≡ n = omega (arith, ints) in
-    ap Some (ap wrapped alone ∙ int_wrap_fits w128 n fits)
-
 -- how many there are in two lists
 pub wrapped-count : (m n : ℕ) → wrapped (wrapped (pos m) +ℤ wrapped (pos n)) ≡ wrapped (pos (m + n))
 wrapped-count m n = wrapped-add (pos m) (pos n)

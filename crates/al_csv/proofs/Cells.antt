@@ -68,9 +68,6 @@ pub row_is : (number : ℕ) (columns : List Column) (fields : List (List ℕ)) �
 unfolding cells
 row_is number columns fields same = let test = eq-eqb (length fields) (length columns) same in rw test refl
 
-pub row_bad_count : (number : ℕ) (columns : List Column) (fields : List (List ℕ)) → (length fields ≡ length columns → ⊥) → row_of columns (number, fields) ≡ Err (bad_at number 0 BadCount)
-row_bad_count number columns fields differ = let test = ne_eqb (length fields) (length columns) differ in rw test refl
-
 pub placed_ok : (number column : ℕ) (r : Result Value DataKind) (v : Value) → r ≡ Ok v → placed number column r ≡ Ok v
 placed_ok number column r v e = rw e refl
 

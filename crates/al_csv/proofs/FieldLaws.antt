@@ -50,10 +50,6 @@ sign_is (b ∷ rest) =
       | inr n ↦ elim (cases_Bool (b == 43)) [ inl y2 ↦ rw (n, y2) refl | inr n2 ↦ rw (n, n2) refl ]
     ]
 
-minus_is : (f : List ℕ) → starts_with_minus f ≡ has_minus f
-minus_is [] = refl
-minus_is (b ∷ rest) = refl
-
 value_is : (f : List ℕ) → AllDigits 10 (without_sign f) → signed_digits_value 10 f ≡ int_of f
 value_is [] h = ap (λ (n : ℕ). pos n) (sym (own.same [] h))
 value_is (b ∷ rest) h =

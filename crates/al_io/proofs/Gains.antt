@@ -33,10 +33,6 @@ read_more_at whole read buf r1 r2 n h k =
 abbrev pub IsReadOf : Bytes → Option Bytes → Bytes → Type 0
 IsReadOf read now whole = (length read ≤ length whole) × (read ≡ take (length read) whole) × (now ≡ Some (drop (length read) whole))
 
-pub read_none : (w0 : Option Bytes) → Told w0 (IsReadOf [] w0)
-read_none None = tt
-read_none (Some whole) = (omega arith, refl, refl)
-
 pub read_more : (w0 r1 r2 : Option Bytes) (read buf : Bytes) (n : ℕ) → Told w0 (IsReadOf read r1) → Moves r1 r2 buf n → Told w0 (IsReadOf (read ++ take n buf) r2)
 read_more None r1 r2 read buf n h k = tt
 read_more (Some whole) r1 r2 read buf n h k = read_more_at whole read buf r1 r2 n h k
@@ -54,9 +50,3 @@ read_all (Some whole) r1 r2 read buf n e h k =
 pub read_past : (w0 r : Option Bytes) (read : Bytes) → Told w0 (IsReadOf read r) → Told w0 (IsWholeOf true read)
 read_past None r read h = tt
 read_past (Some whole) r read h = h.1
-
--- what was read of an opened file is what the files tell of it
-pub read_of_file : (files : Option Files) (name : Bytes) (rest : Option Bytes) (past : Bool) (read : Bytes) (P : Bytes → Type 0) → Opens files name (Ok true) rest → Told rest (IsWholeOf past read) → ((bytes : Bytes) → IsWholeOf past read bytes → P bytes)
-    → Told files (λ fs. (bytes : Bytes) × (fs name ≡ Some bytes) × P bytes)
-read_of_file None name rest past read P o h k = tt
-read_of_file (Some fs) name rest past read P o h k = (o.0, o.1, k o.0 (told_at rest o.0 (IsWholeOf past read) o.2 h))

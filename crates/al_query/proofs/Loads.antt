@@ -37,10 +37,6 @@ pub loaded_cons : (fs : Files) (before : ℕ) (d : Decl) (ds : List Decl) → lo
 unfolding loaded
 loaded_cons fs before d ds = refl
 
-prepend_none : (r : Result (List Data) DataRefused) → prepend [] r ≡ r
-prepend_none (Ok sets) = refl
-prepend_none (Err e) = refl
-
 some_is : {X : Type 0} (x y : X) → Some x ≡ Some y → x ≡ y
 some_is x y e = cc
 
@@ -51,9 +47,6 @@ prepend_one sets d rows (Err e) = refl
 -- the datasets so far, before those that are left
 abbrev pub LoadedSoFar : Files → List Decl → List Decl → ℕ → List Data → Type 0
 LoadedSoFar fs decls left before sets = loaded fs 0 decls ≡ prepend sets (loaded fs before left)
-
-pub so_far_start : (fs : Files) (decls : List Decl) → LoadedSoFar fs decls decls 0 []
-so_far_start fs decls = sym (prepend_none (loaded fs 0 decls))
 
 pub so_far_more : (fs : Files) (decls left : List Decl) (before : ℕ) (sets : List Data) (d : Decl) (x : Data) (size : ℕ) → LoadedSoFar fs decls (d ∷ left) before sets
     → file_rows before d (fs d.file) ≡ Ok x.rows → x.name ≡ d.name → size ≡ size_of (fs d.file) → LoadedSoFar fs decls left (before + size) (sets ++ (x ∷ []))
@@ -76,10 +69,6 @@ so_far_end fs decls before sets so_far = so_far ∙ ap (prepend sets) (loaded_no
 
 left_of : (decls : List Decl) (i : ℕ) (d : Decl) → i < length decls → d ≡ get_or decls i d → drop i decls ≡ d ∷ drop (i + 1) decls
 left_of decls i d h same = rw (add-one, drop-cons decls i d h) (ap (λ (x : Decl). x ∷ drop (suc i) decls) (sym same))
-
-pub told_start : (files : Option Files) (decls : List Decl) → Told files (λ fs. LoadedSoFar fs decls decls 0 [])
-told_start None decls = tt
-told_start (Some fs) decls = so_far_start fs decls
 
 pub told_more : (files later : Option Files) (decls : List Decl) (i before : ℕ) (sets : List Data) (d : Decl) (l : Loaded) → i < length decls → d ≡ get_or decls i d → later ≡ files
     → Told files (λ fs. LoadedSoFar fs decls (drop i decls) before sets) → Told later (λ fs. TellsSet before d (fs d.file) (Ok l)) → Told files (λ fs. LoadedSoFar fs decls (drop (i + 1) decls) (before + l.size) (sets ++ (l.data ∷ [])))

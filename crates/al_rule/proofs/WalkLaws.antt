@@ -90,11 +90,6 @@ part_applied R i below place p empty rest part rewritten r is taken inner put m 
 
 -- ---- where nothing matches
 
-pub stuck_by_parts : (rules : Rules) (p : Plan) → NoneHere rules p → ((i : ℕ) (x : Plan) → input p i ≡ Some x → Stuck rules x) → Stuck rules p
-unfolding plan_at
-stuck_by_parts rules p here parts k low [] x e m = let same : p ≡ x = cc in here k low (subst (Matches (rules.rewrites k)) (sym same) m)
-stuck_by_parts rules p here parts k low (i ∷ place) x e m = let (z, iz, ez) = bound (input p i) (plan_at place) x e in parts i z iz k low place x ez m
-
 pub none_at_root : (rules : Rules) (p : Plan) → NoneBefore rules [] p
 unfolding NoneBefore
 none_at_root rules p = tt

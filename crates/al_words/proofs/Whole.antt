@@ -28,10 +28,6 @@ the_rules = word_at at_command ∷ word_at at_first ∷ word_at at_second ∷ wo
 abbrev the_app : App
 the_app = record { top = shape the_rules; subs = [] }
 
-is_built : built usage_app ≡ the_app
-unfolding usage_app
-is_built = refl
-
 found_long : (name : Text) (names : List Text) → find (λ a. not (is_some a.index) && has_long a name) (map option_at names)
     ≡ (if list_any (λ n. bytes_eq n name) names then Some (option_at name) else None)
 found_long name [] = refl
