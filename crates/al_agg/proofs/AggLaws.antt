@@ -1,5 +1,5 @@
 -- The aggregates of one list behind another.
-use Rattle.std.specs.Prelude.{All, ℕ, ℤ, pos, ◌+ℤ◌, ◌+◌, Bool, true, false, not, ◌&&◌, ◌||◌, ◌⊎◌, Some, List, [], ◌∷◌, ◌++◌, if◌then◌else◌, FitsSigned}
+use Rattle.std.specs.Prelude.{All, ℕ, ℤ, pos, ◌+ℤ◌, ◌+◌, Bool, true, false, not, ◌&&◌, ◌||◌, ◌⊎◌, Some, List, [], ◌∷◌, ◌++◌, if◌then◌else◌}
 use Rattle.std.specs.Int.{w128}
 use Rattle.std.specs.Ordering.{ordering_reverse}
 use Rattle.std.specs.declared.cmp.Ordering.{Ordering}
@@ -7,7 +7,7 @@ use Rattle.std.specs.declared.cmp.Ordering.TheVariants.{Less, Equal, Greater}
 use Rattle.std.proofs.Common.{◌≡◌, refl, sym, ◌∙◌, ap, subst, inl, inr, arith, append-nil}
 use Rattle.std.proofs.lemmas.Bool.{cases_Bool}
 use Rattle.std.proofs.lemmas.List.Elements.{All-head, All-tail}
-use Rattle.std.proofs.lemmas.Int.{ints, int_wrap_fits, int_wrap-add_left, int_wrap-add_right}
+use Rattle.std.proofs.lemmas.Int.{ints, int_wrap-add_left, int_wrap-add_right}
 use Rattle.al_value.specs.declared.value.Value.{Value}
 use Rattle.al_value.specs.declared.value.Value.TheVariants as V
 use Rattle.al_value.specs.Value.{IsValue, value_cmp}

@@ -7,12 +7,12 @@ use Rattle.std.proofs.lemmas.Str.{IsUtf8-from_ascii, is_utf8-from_IsUtf8, IsUtf8
 use Rattle.std.proofs.lemmas.Fmt.{IsAscii-from_digits}
 use Rattle.std.proofs.lemmas.Str.Parse.{IsNumeralModel, numerals_by_weight, tells_all_ascii_digits, WeighsDigits}
 use Rattle.std.specs.Str.{all_ascii_digits, is_utf8, IsAscii}
-use Rattle.std.specs.Str.Parse.{AllDigits, IsNumeral, signed_digits_value, without_leading_sign, starts_with_minus}
+use Rattle.std.specs.Str.Parse.{AllDigits, IsNumeral, signed_digits_value, without_leading_sign}
 use Rattle.std.specs.Prelude.{FitsSigned}
 use Rattle.std.specs.Int.{w64}
 use Rattle.al_value.specs.declared.value.Value.TheVariants as V
 use Rattle.al_csv.specs.declared.refused.DataKind.TheVariants.{BadInt, BadUtf8, TooLong}
-use Rattle.al_csv.specs.Fields.{number_of, without_sign, has_minus, int_of, is_digits, fits_int, int_field, text_field}
+use Rattle.al_csv.specs.Fields.{number_of, without_sign, int_of, is_digits, fits_int, int_field, text_field}
 
 pub text_good : (f : List ℕ) → IsUtf8 f → (32000 < length f → ⊥) → text_field f ≡ Ok (V.Text f)
 text_good f u h = let le : length f ≤ 32000 = omega arith in rw (is_utf8-from_IsUtf8 f u, le-leb (length f) 32000 le) refl

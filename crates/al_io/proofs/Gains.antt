@@ -1,10 +1,10 @@
 -- A loop's step over what is told.
-use Rattle.std.proofs.Common.{◌≡◌, ℕ, ◌+◌, ◌-◌, ◌≤◌, [], ◌++◌, take, drop, length, Option, None, Some, refl, ap, sym, subst, ◌∙◌, append_assoc, arith, length-drop, length-append}
-use Rattle.std.specs.Prelude.{Bool, true, false, Ok}
+use Rattle.std.proofs.Common.{◌≡◌, ℕ, ◌+◌, ◌-◌, ◌≤◌, [], ◌++◌, take, drop, length, Option, None, Some, ap, sym, subst, ◌∙◌, append_assoc, arith, length-drop, length-append}
+use Rattle.std.specs.Prelude.{true, false}
 use Rattle.std.proofs.lemmas.List.{length-take-le, take_all}
 use Rattle.std.proofs.lemmas.Grind.{common_steps}
 use Rattle.std.proofs.Math.Seq.{take-add, drop-drop}
-use Rattle.al_io.specs.Outside.{Bytes, Files, Opens, Told, Moves, IsWholeOf}
+use Rattle.al_io.specs.Outside.{Bytes, Told, Moves, IsWholeOf}
 
 pub told_at : {X : Type 0} (o : Option X) (x : X) (P : X → Type 0) → o ≡ Some x → Told o P → P x
 told_at {X} o x P e h = let Q : Option X → Type 0 = λ p. Told p P in subst Q e h

@@ -1,15 +1,13 @@
 -- Datasets that are loaded one after the other, and what that tells.
-use Rattle.std.proofs.Common.{◌≡◌, ℕ, ◌+◌, ◌-◌, ◌≤◌, ◌<◌, List, [], ◌∷◌, ◌++◌, length, take, drop, get_or, Bool, Option, None, Some, true, false, Result, Ok, Err, refl, ap, sym, subst, ◌∙◌, arith, suc, add-one, append-nil, append_assoc, drop-cons}
+use Rattle.std.proofs.Common.{◌≡◌, ℕ, ◌+◌, ◌-◌, ◌≤◌, ◌<◌, List, [], ◌∷◌, ◌++◌, length, take, drop, get_or, Bool, Option, Some, true, false, Result, Ok, Err, refl, ap, sym, subst, ◌∙◌, suc, add-one, append-nil, append_assoc, drop-cons}
 use Rattle.std.proofs.Math.Seq.{take-suc}
 use Rattle.std.proofs.lemmas.List.{drop_all}
-use Rattle.std.specs.Prelude.{nat_eq, nat_le, if◌then◌else◌, min}
+use Rattle.std.specs.Prelude.{nat_eq, if◌then◌else◌}
 use Rattle.std.specs.List.{All}
 use Rattle.std.specs.Cmp.Lexicographic.{pointwise}
 use Rattle.al_value.specs.declared.value.Value.{Value}
 use Rattle.al_io.specs.Outside.{Bytes, Files, Told}
-use Rattle.al_csv.specs.Records.{records}
 use Rattle.al_csv.specs.declared.decl.Decl.{Decl}
-use Rattle.al_csv.specs.declared.refused.BadRecord.{BadRecord}
 use Rattle.al_plain.specs.declared.plan.Data.{Data}
 use Rattle.al_query.specs.declared.status.DataRefused.{DataRefused}
 use Rattle.al_plan.specs.declared.file.PlanFile.{PlanFile}

@@ -1,15 +1,9 @@
 -- What each step of a command tells of the whole.
-use Rattle.std.proofs.Common.{◌≡◌, ℕ, ◌≤◌, ◌<◌, List, [], ◌∷◌, length, map, Bool, Option, None, Some, Result, Ok, Err, true, false, refl, ap, sym, subst, ◌∙◌, inl, inr, arith}
-use Rattle.std.specs.Prelude.{nat_le, not, if◌then◌else◌, ◌⊎◌, IfOk, IfErr}
-use Rattle.al_value.specs.declared.value.Value.{Value}
+use Rattle.std.proofs.Common.{◌≡◌, ℕ, ◌≤◌, List, Bool, Option, None, Some, Result, Ok, Err, true, false, refl, ap, sym, subst, ◌∙◌, inl, inr, arith}
+use Rattle.std.specs.Prelude.{not, ◌⊎◌, IfOk}
 use Rattle.al_io.specs.Outside.{Bytes, Files, Told}
 use Rattle.al_io.specs.FileRead.{TellsFile}
 use Rattle.al_io.specs.declared.source.FileRead.TheVariants as found
-use Rattle.al_csv.specs.Records.{records}
-use Rattle.al_csv.specs.declared.decl.Decl.{Decl}
-use Rattle.al_csv.specs.declared.refused.BadRecord.{BadRecord}
-use Rattle.al_csv.specs.declared.refused.DataKind.TheVariants as kind
-use Rattle.al_csv.specs.OutText.{out_text}
 use Rattle.al_value.specs.declared.settings.Settings.{Settings}
 use Rattle.al_words.specs.declared.command.Command.{Command}
 use Rattle.al_words.specs.declared.command.Command.TheVariants as C
@@ -17,12 +11,8 @@ use Rattle.al_words.specs.Words.{IsCommand, IsSetting}
 use Rattle.al_plan.specs.declared.file.PlanFile.{PlanFile}
 use Rattle.al_plan.specs.declared.file.Refused.{Refused}
 use Rattle.al_plan.specs.declared.file.RefusedKind.TheVariants as refused
-use Rattle.al_plan.specs.Grammar.{IsRoot}
 use Rattle.al_plan.specs.declared.plan.Plan.{Plan}
-use Rattle.al_plan.specs.Refines.{Fit, Refines}
-use Rattle.al_plan.specs.Allows.{live}
 use Rattle.al_plain.specs.declared.plan.Data.{Data}
-use Rattle.al_plain.specs.Gives.{sets_of, Gives}
 use Rattle.al_print.specs.Canonical.{file_with, plan_text}
 use Rattle.al_print.specs.Explanation.{explanation}
 use Rattle.al_rule.specs.declared.trace.TraceStep.{TraceStep}
@@ -31,7 +21,6 @@ use Rattle.hy_job.specs.declared.job.Job.{Job}
 use Rattle.hy_job.specs.declared.job.Stage.{Stage}
 use Rattle.hy_job.specs.Stages.{StageOf}
 use Rattle.al_value.specs.declared.fault.NoMemory.{NoMemory}
-use Rattle.al_plan.specs.Accept.{IsAccepted, accept_refusal}
 use Rattle.al_read.specs.declared.plan.ReadRefused.{ReadRefused}
 use Rattle.al_read.specs.declared.plan.ReadRefused.TheVariants as A
 use Rattle.al_read.specs.Reads.{Reads, Refuses as ReadRefuses, refusal}
@@ -39,10 +28,8 @@ use Rattle.al_read.specs.Reads as unreads
 use Rattle.al_query.specs.declared.status.DataRefused.{DataRefused}
 use Rattle.al_query.specs.declared.status.Status.{Status}
 use Rattle.al_query.specs.declared.status.Status.TheVariants as St
-use Rattle.al_query.specs.declared.data.Loaded.{Loaded}
-use Rattle.al_query.specs.Served.{IsPlan, IsPlanRefused, absent, unread, unaccepted, file_rows, of_file, room_behind, size_of, loaded, IsServed, IsPrinted, IsCompiled, IsExplained, IsText, is_served, plan_of, query_of, IsAsked, IsDue}
-use Rattle.al_query.specs.Tells.{IsStop, TellsPlan, TellsRead, TellsAccepted, TellsSet, TellsBytes, TellsData, TellsEvaluated, Refuses, TellsAnswer, TellsPrinted, TellsExplained, TellsMade, Explains, IsInRange, TellsText, is_idle, is_usage, unread_status}
-use Rattle.al_query.specs.Answer.{IsAnswer}
+use Rattle.al_query.specs.Served.{IsPlan, IsPlanRefused, unread, unaccepted, loaded, IsServed, IsPrinted, IsCompiled, IsExplained, IsText, is_served, plan_of, query_of, IsAsked, IsDue}
+use Rattle.al_query.specs.Tells.{TellsPlan, TellsRead, TellsAccepted, TellsData, TellsEvaluated, TellsAnswer, TellsPrinted, TellsExplained, TellsMade, Explains, IsInRange, TellsText, is_idle, is_usage, unread_status}
 use Rattle.al_query.proofs.Dues.{told_map, told_both}
 
 -- ---- plan files

@@ -5,7 +5,7 @@ use Rattle.std.specs.List.{list_all, list_any}
 use Rattle.std.specs.Str.{bytes_eq}
 use Rattle.clap.specs.Kinds.{Kinds, or_else}
 use Rattle.clap.specs.Faults.{check_fault, default_fault, entered_fault, level_fault, defaults_fault, fault_of, settle_fault, walk_fault}
-use Rattle.clap.specs.Simple.{App, built, entered, matches_of}
+use Rattle.clap.specs.Simple.{App, entered, matches_of}
 use Rattle.clap.specs.Walk.{Held, Row, Rule, Text, Walk, arg_by_id, arg_by_index, default_rows, finished, has_long, has_row, idle, nothing_held, reading_by, settled, with_default}
 use Rattle.al_words.specs.Words.{AreOnce, Item, Options, option_names, options_of, words_of}
 use Rattle.al_words.specs.Usage.{options_in, usage_app, words_in}
