@@ -20,7 +20,7 @@ pub fn file_of(alloc: Global, listed: &str, plan: &str) -> Result<String, Fail> 
     Ok(format!(in alloc; "(algebricks 1 {DECL} {DEPT} (result ({listed}) {plan}))")?)
 }
 
-const DEPT_DATA: &str = "code,title\nX,Ex\n";
+pub const DEPT_DATA: &str = "code,title\nX,Ex\n";
 
 /// Answers a plan file by `plain` and by `step`.
 fn answers_file<'a, R: Abort + AllocGlobal>(

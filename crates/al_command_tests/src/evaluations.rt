@@ -1,0 +1,102 @@
+//! Plans over data, evaluated: the rows come in the order in which `plain` gives them.
+
+use crate::case::{Case, EMP, serve};
+use crate::queries::{DEPT_DATA, file_of};
+use std::alloc::Global;
+use std::str::from_utf8;
+use std::test::Fail;
+
+/// The records behind the header: cells between commas, records between semicolons, and a dash for
+/// NULL.
+fn shown(alloc: Global, printed: &str) -> Result<String, Fail> {
+    let mut text = String::new(alloc);
+    for line in printed.lines().skip(1) {
+        if !text.as_str().is_empty() {
+            text.push(';')?;
+        }
+        let mut separator = "";
+        for cell in line.split(',') {
+            text.push_str(separator)?;
+            separator = ",";
+            text.push_str(if cell.is_empty() || cell == "\"\"" {
+                "-"
+            } else {
+                cell
+            })?;
+        }
+    }
+    Ok(text)
+}
+
+/// What a plan gives over `emp` and `dept`.
+fn answer(alloc: Global, listed: &str, plan: &str) -> Result<String, Fail> {
+    let file = file_of(alloc, listed, plan)?;
+    let case = Case::over_emp("plain p", file.as_str(), EMP, Some(DEPT_DATA));
+    let left = serve(alloc, &case)?;
+    shown(alloc, from_utf8(left.out.bytes()).unwrap_or(""))
+}
+
+/// The variables that are listed, a plan in which SCAN stands for the scan of emp, and its rows.
+const ANSWERS: [(&str, &str, &str); 13] = [
+    (
+        "$id $name $dept $pay",
+        "(select (eq $dept \"X\") SCAN)",
+        "1,Ann,X,10;3,Cy,X,-",
+    ),
+    ("$pay $id", "(project ($pay $id) SCAN)", "10,1;20,2;-,3;5,4"),
+    ("$dept", "SCAN", "X;Y;X;-"),
+    (
+        "$id $pay",
+        "(project ($id $pay) (order (($pay desc)) SCAN))",
+        "2,20;1,10;4,5;3,-",
+    ),
+    (
+        "$id $name $dept $pay",
+        "(limit 2 3 (order (($id asc)) SCAN))",
+        "4,Di,-,5",
+    ),
+    (
+        "$of $all",
+        "(order (($of asc)) (group (($of $dept)) (aggregate (($all (sum $pay))) (nested)) SCAN))",
+        "-,5;X,10;Y,20",
+    ),
+    (
+        "$id $i",
+        "(project ($id $i) (join (eq $dept $d) SCAN (scan emp ($i $n $d $p))))",
+        "1,1;1,3;2,2;3,1;3,3",
+    ),
+    (
+        "$id $d $title",
+        "(project ($id $d $title) (leftjoin (eq $dept $d) SCAN (scan dept ($d $title))))",
+        "1,X,Ex;2,-,-;3,X,Ex;4,-,-",
+    ),
+    ("$dept", "(distinct (project ($dept) SCAN))", "X;Y;-"),
+    (
+        "$what",
+        "(union ($what) ($dept) ($d) SCAN (scan dept ($d $title)))",
+        "X;Y;X;-;X",
+    ),
+    (
+        "$id $count",
+        "(project ($id $count) (subplan (aggregate (($count (countall))) (unnest $piece (split $name \"n\") (nested))) SCAN))",
+        "1,3;2,1;3,1;4,1",
+    ),
+    (
+        "$a $b $c",
+        "(aggregate (($a (count $pay)) ($b (min $pay)) ($c (max $pay))) SCAN)",
+        "3,5,20",
+    ),
+    (
+        "$id",
+        "(project ($id) (check small (lt (coalesce $pay 0) 100) SCAN))",
+        "1;2;3;4",
+    ),
+];
+
+#[test]
+fn evaluates_plans(rt: HostRuntime) -> Result<(), Fail> {
+    for (listed, plan, wanted) in ANSWERS {
+        assert_eq!(rt; answer(rt.alloc(), listed, plan)?.as_str(), wanted);
+    }
+    Ok(())
+}
