@@ -1,13 +1,15 @@
 -- Datasets that are loaded one after the other, and what that tells.
-use Rattle.std.proofs.Common.{◌≡◌, ℕ, ◌+◌, ◌-◌, ◌≤◌, ◌<◌, List, [], ◌∷◌, ◌++◌, length, take, drop, get_or, Bool, Option, Some, true, false, Result, Ok, Err, refl, ap, sym, subst, ◌∙◌, suc, add-one, append-nil, append_assoc, drop-cons}
+use Rattle.std.proofs.Common.{◌≡◌, ℕ, ◌+◌, ◌-◌, ◌≤◌, ◌<◌, List, [], ◌∷◌, ◌++◌, length, take, drop, get_or, Bool, Option, None, Some, true, false, Result, Ok, Err, refl, ap, sym, subst, ◌∙◌, arith, suc, add-one, append-nil, append_assoc, drop-cons}
 use Rattle.std.proofs.Math.Seq.{take-suc}
 use Rattle.std.proofs.lemmas.List.{drop_all}
-use Rattle.std.specs.Prelude.{nat_eq, if◌then◌else◌}
+use Rattle.std.specs.Prelude.{nat_eq, nat_le, if◌then◌else◌, min}
 use Rattle.std.specs.List.{All}
 use Rattle.std.specs.Cmp.Lexicographic.{pointwise}
 use Rattle.al_value.specs.declared.value.Value.{Value}
 use Rattle.al_io.specs.Outside.{Bytes, Files, Told}
+use Rattle.al_csv.specs.Records.{records}
 use Rattle.al_csv.specs.declared.decl.Decl.{Decl}
+use Rattle.al_csv.specs.declared.refused.BadRecord.{BadRecord}
 use Rattle.al_plain.specs.declared.plan.Data.{Data}
 use Rattle.al_query.specs.declared.status.DataRefused.{DataRefused}
 use Rattle.al_plan.specs.declared.file.PlanFile.{PlanFile}
@@ -35,6 +37,10 @@ pub loaded_cons : (fs : Files) (before : ℕ) (d : Decl) (ds : List Decl) → lo
 unfolding loaded
 loaded_cons fs before d ds = refl
 
+prepend_none : (r : Result (List Data) DataRefused) → prepend [] r ≡ r
+prepend_none (Ok sets) = refl
+prepend_none (Err e) = refl
+
 some_is : {X : Type 0} (x y : X) → Some x ≡ Some y → x ≡ y
 some_is x y e = cc
 
@@ -45,6 +51,9 @@ prepend_one sets d rows (Err e) = refl
 -- the datasets so far, before those that are left
 abbrev pub LoadedSoFar : Files → List Decl → List Decl → ℕ → List Data → Type 0
 LoadedSoFar fs decls left before sets = loaded fs 0 decls ≡ prepend sets (loaded fs before left)
+
+pub so_far_start : (fs : Files) (decls : List Decl) → LoadedSoFar fs decls decls 0 []
+so_far_start fs decls = sym (prepend_none (loaded fs 0 decls))
 
 pub so_far_more : (fs : Files) (decls left : List Decl) (before : ℕ) (sets : List Data) (d : Decl) (x : Data) (size : ℕ) → LoadedSoFar fs decls (d ∷ left) before sets
     → file_rows before d (fs d.file) ≡ Ok x.rows → x.name ≡ d.name → size ≡ size_of (fs d.file) → LoadedSoFar fs decls left (before + size) (sets ++ (x ∷ []))
@@ -67,6 +76,10 @@ so_far_end fs decls before sets so_far = so_far ∙ ap (prepend sets) (loaded_no
 
 left_of : (decls : List Decl) (i : ℕ) (d : Decl) → i < length decls → d ≡ get_or decls i d → drop i decls ≡ d ∷ drop (i + 1) decls
 left_of decls i d h same = rw (add-one, drop-cons decls i d h) (ap (λ (x : Decl). x ∷ drop (suc i) decls) (sym same))
+
+pub told_start : (files : Option Files) (decls : List Decl) → Told files (λ fs. LoadedSoFar fs decls decls 0 [])
+told_start None decls = tt
+told_start (Some fs) decls = so_far_start fs decls
 
 pub told_more : (files later : Option Files) (decls : List Decl) (i before : ℕ) (sets : List Data) (d : Decl) (l : Loaded) → i < length decls → d ≡ get_or decls i d → later ≡ files
     → Told files (λ fs. LoadedSoFar fs decls (drop i decls) before sets) → Told later (λ fs. TellsSet before d (fs d.file) (Ok l)) → Told files (λ fs. LoadedSoFar fs decls (drop (i + 1) decls) (before + l.size) (sets ++ (l.data ∷ [])))

@@ -1,9 +1,15 @@
 -- What each step of a command tells of the whole.
-use Rattle.std.proofs.Common.{◌≡◌, ℕ, ◌≤◌, List, Bool, Option, None, Some, Result, Ok, Err, true, false, refl, ap, sym, subst, ◌∙◌, inl, inr, arith}
-use Rattle.std.specs.Prelude.{not, ◌⊎◌, IfOk}
+use Rattle.std.proofs.Common.{◌≡◌, ℕ, ◌≤◌, ◌<◌, List, [], ◌∷◌, length, map, Bool, Option, None, Some, Result, Ok, Err, true, false, refl, ap, sym, subst, ◌∙◌, inl, inr, arith}
+use Rattle.std.specs.Prelude.{nat_le, not, if◌then◌else◌, ◌⊎◌, IfOk, IfErr}
+use Rattle.al_value.specs.declared.value.Value.{Value}
 use Rattle.al_io.specs.Outside.{Bytes, Files, Told}
 use Rattle.al_io.specs.FileRead.{TellsFile}
 use Rattle.al_io.specs.declared.source.FileRead.TheVariants as found
+use Rattle.al_csv.specs.Records.{records}
+use Rattle.al_csv.specs.declared.decl.Decl.{Decl}
+use Rattle.al_csv.specs.declared.refused.BadRecord.{BadRecord}
+use Rattle.al_csv.specs.declared.refused.DataKind.TheVariants as kind
+use Rattle.al_csv.specs.OutText.{out_text}
 use Rattle.al_value.specs.declared.settings.Settings.{Settings}
 use Rattle.al_words.specs.declared.command.Command.{Command}
 use Rattle.al_words.specs.declared.command.Command.TheVariants as C
@@ -11,8 +17,12 @@ use Rattle.al_words.specs.Words.{IsCommand, IsSetting}
 use Rattle.al_plan.specs.declared.file.PlanFile.{PlanFile}
 use Rattle.al_plan.specs.declared.file.Refused.{Refused}
 use Rattle.al_plan.specs.declared.file.RefusedKind.TheVariants as refused
+use Rattle.al_plan.specs.Grammar.{IsRoot}
 use Rattle.al_plan.specs.declared.plan.Plan.{Plan}
+use Rattle.al_plan.specs.Refines.{Fit, Refines}
+use Rattle.al_plan.specs.Allows.{live}
 use Rattle.al_plain.specs.declared.plan.Data.{Data}
+use Rattle.al_plain.specs.Gives.{sets_of, Gives}
 use Rattle.al_print.specs.Canonical.{file_with, plan_text}
 use Rattle.al_print.specs.Explanation.{explanation}
 use Rattle.al_rule.specs.declared.trace.TraceStep.{TraceStep}
@@ -21,6 +31,7 @@ use Rattle.hy_job.specs.declared.job.Job.{Job}
 use Rattle.hy_job.specs.declared.job.Stage.{Stage}
 use Rattle.hy_job.specs.Stages.{StageOf}
 use Rattle.al_value.specs.declared.fault.NoMemory.{NoMemory}
+use Rattle.al_plan.specs.Accept.{IsAccepted, accept_refusal}
 use Rattle.al_read.specs.declared.plan.ReadRefused.{ReadRefused}
 use Rattle.al_read.specs.declared.plan.ReadRefused.TheVariants as A
 use Rattle.al_read.specs.Reads.{Reads, Refuses as ReadRefuses, refusal}
@@ -28,8 +39,10 @@ use Rattle.al_read.specs.Reads as unreads
 use Rattle.al_query.specs.declared.status.DataRefused.{DataRefused}
 use Rattle.al_query.specs.declared.status.Status.{Status}
 use Rattle.al_query.specs.declared.status.Status.TheVariants as St
-use Rattle.al_query.specs.Served.{IsPlan, IsPlanRefused, unread, unaccepted, loaded, IsServed, IsPrinted, IsCompiled, IsExplained, IsText, is_served, plan_of, query_of, IsAsked, IsDue}
-use Rattle.al_query.specs.Tells.{TellsPlan, TellsRead, TellsAccepted, TellsData, TellsEvaluated, TellsAnswer, TellsPrinted, TellsExplained, TellsMade, Explains, IsInRange, TellsText, is_idle, is_usage, unread_status}
+use Rattle.al_query.specs.declared.data.Loaded.{Loaded}
+use Rattle.al_query.specs.Served.{IsPlan, IsPlanRefused, absent, unread, unaccepted, file_rows, of_file, room_behind, size_of, loaded, IsServed, IsPrinted, IsCompiled, IsExplained, IsText, is_served, plan_of, query_of, IsAsked, IsDue}
+use Rattle.al_query.specs.Tells.{IsStop, TellsPlan, TellsRead, TellsAccepted, TellsSet, TellsBytes, TellsData, TellsEvaluated, Refuses, TellsAnswer, TellsPrinted, TellsExplained, TellsMade, Explains, IsInRange, TellsText, is_idle, is_usage, unread_status}
+use Rattle.al_query.specs.Answer.{IsAnswer}
 use Rattle.al_query.proofs.Dues.{told_map, told_both}
 
 -- ---- plan files
@@ -58,11 +71,85 @@ accept_stopped bytes f (St.DataRefused d) reads h = h
 accept_stopped bytes f (St.CheckFailed own) reads h = h
 accept_stopped bytes f St.SinkFault reads h = h
 
+pub told_plan : (files : Option Files) (name bytes : Bytes) (limit : ℕ) (r : Result PlanFile Status) → Told files (λ fs. TellsFile (fs name) limit (found.Bytes bytes)) → TellsPlan (Some bytes) r → Told files (λ fs. TellsPlan (fs name) r)
+told_plan files name bytes limit r h k =
+    told_map files (λ fs. TellsFile (fs name) limit (found.Bytes bytes)) (λ fs. TellsPlan (fs name) r) h (λ fs there. subst (λ (o : Option Bytes). TellsPlan o r) (sym there.0) k)
+
+pub told_absent : (files : Option Files) (name : Bytes) (limit : ℕ) → Told files (λ fs. TellsFile (fs name) limit found.Absent) → Told files (λ fs. TellsPlan (fs name) (Err (St.PlanRefused (refusal refused.Absent 0))))
+told_absent files name limit h = told_map files (λ fs. TellsFile (fs name) limit found.Absent) (λ fs. IsPlanRefused (fs name) (refusal refused.Absent 0)) h (λ fs none. absent none refl)
+
 pub told_large : (files : Option Files) (name : Bytes) → Told files (λ fs. TellsFile (fs name) 1048576 found.TooLarge) → Told files (λ fs. TellsPlan (fs name) (Err (St.PlanRefused (refusal refused.TooLarge 1048576))))
 told_large files name h =
     told_map files (λ fs. TellsFile (fs name) 1048576 found.TooLarge) (λ fs. IsPlanRefused (fs name) (refusal refused.TooLarge 1048576)) h (λ fs large. unread large.0 large.1 (unreads.too_large large.2 refl))
 
 -- ---- data files
+
+at_most : (n m : ℕ) → n ≤ m → nat_le n m ≡ true
+at_most n m h = grind arith
+
+more : (n m : ℕ) → m < n → nat_le n m ≡ false
+more n m h = grind arith
+
+rows_within : (before : ℕ) (d : Decl) (bytes : Bytes) → length bytes ≤ room_behind before → file_rows before d (Some bytes) ≡ records d.columns bytes
+rows_within before d bytes h = ap (λ (b : Bool). if b then records d.columns bytes else Err (of_file kind.TooLarge)) (at_most (length bytes) (room_behind before) h)
+
+rows_past : (before : ℕ) (d : Decl) (bytes : Bytes) → room_behind before < length bytes → file_rows before d (Some bytes) ≡ Err (of_file kind.TooLarge)
+rows_past before d bytes h = ap (λ (b : Bool). if b then records d.columns bytes else Err (of_file kind.TooLarge)) (more (length bytes) (room_behind before) h)
+
+set_within : (before : ℕ) (d : Decl) (bytes : Bytes) (r : Result Loaded Status) → length bytes ≤ room_behind before → TellsBytes d bytes r → TellsSet before d (Some bytes) r
+set_within before d bytes (Ok l) few (read, name, size) = (rows_within before d bytes few ∙ read, name, size)
+set_within before d bytes (Err (St.DataRefused r)) few (file, bad) = (file, rows_within before d bytes few ∙ bad)
+set_within before d bytes (Err St.NoMemory) few h = tt
+set_within before d bytes (Err St.SourceFault) few h = tt
+set_within before d bytes (Err St.Done) few h = h
+set_within before d bytes (Err St.Usage) few h = h
+set_within before d bytes (Err (St.PlanRefused r)) few h = h
+set_within before d bytes (Err (St.CheckFailed own)) few h = h
+set_within before d bytes (Err St.SinkFault) few h = h
+
+pub told_set : (files : Option Files) (before : ℕ) (d : Decl) (name bytes : Bytes) (r : Result Loaded Status) → name ≡ d.file → Told files (λ fs. TellsFile (fs name) (room_behind before) (found.Bytes bytes)) → TellsBytes d bytes r
+    → Told files (λ fs. TellsSet before d (fs d.file) r)
+told_set files before d name bytes r same h k =
+    told_map files (λ fs. TellsFile (fs name) (room_behind before) (found.Bytes bytes)) (λ fs. TellsSet before d (fs d.file) r) h
+    (λ fs there. subst (λ (n : Bytes). TellsSet before d (fs n) r) same (subst (λ (o : Option Bytes). TellsSet before d o r) (sym there.0) (set_within before d bytes r there.1 k)))
+
+set_refused : (before : ℕ) (d : Decl) (file : Option Bytes) (bad : BadRecord) (status : Status) → file_rows before d file ≡ Err bad → Refuses d bad status → TellsSet before d file (Err status)
+set_refused before d file bad (St.DataRefused r) e (named, is) = (named, e ∙ ap Err (sym is))
+set_refused before d file bad St.NoMemory e h = tt
+set_refused before d file bad St.SourceFault e h = tt
+set_refused before d file bad St.Done e h = h
+set_refused before d file bad St.Usage e h = h
+set_refused before d file bad (St.PlanRefused r) e h = h
+set_refused before d file bad (St.CheckFailed own) e h = h
+set_refused before d file bad St.SinkFault e h = h
+
+pub told_set_absent : (files : Option Files) (before limit : ℕ) (d : Decl) (name : Bytes) (status : Status) → name ≡ d.file → Told files (λ fs. TellsFile (fs name) limit found.Absent) → Refuses d (of_file kind.Absent) status
+    → Told files (λ fs. TellsSet before d (fs d.file) (Err status))
+told_set_absent files before limit d name status same h k =
+    told_map files (λ fs. TellsFile (fs name) limit found.Absent) (λ fs. TellsSet before d (fs d.file) (Err status)) h
+    (λ fs none. subst (λ (n : Bytes). TellsSet before d (fs n) (Err status)) same (subst (λ (o : Option Bytes). TellsSet before d o (Err status)) (sym none) (set_refused before d None (of_file kind.Absent) status refl k)))
+
+pub told_set_large : (files : Option Files) (before : ℕ) (d : Decl) (name : Bytes) (status : Status) → name ≡ d.file → Told files (λ fs. TellsFile (fs name) (room_behind before) found.TooLarge) → Refuses d (of_file kind.TooLarge) status
+    → Told files (λ fs. TellsSet before d (fs d.file) (Err status))
+told_set_large files before d name status same h k =
+    told_map files (λ fs. TellsFile (fs name) (room_behind before) found.TooLarge) (λ fs. TellsSet before d (fs d.file) (Err status)) h
+    (λ fs large. subst (λ (n : Bytes). TellsSet before d (fs n) (Err status)) same
+    (subst (λ (o : Option Bytes). TellsSet before d o (Err status)) (sym large.1) (set_refused before d (Some large.0) (of_file kind.TooLarge) status (rows_past before d large.0 large.2) k)))
+
+-- ---- answers
+
+plan_stopped : (fs : Files) (name : Bytes) (status : Status) → TellsPlan (fs name) (Err status) → TellsAnswer fs name (Err status)
+plan_stopped fs name (St.PlanRefused r) h = h
+plan_stopped fs name St.NoMemory h = tt
+plan_stopped fs name St.SourceFault h = tt
+plan_stopped fs name St.Done h = h
+plan_stopped fs name St.Usage h = h
+plan_stopped fs name (St.DataRefused d) h = absurd h
+plan_stopped fs name (St.CheckFailed own) h = absurd h
+plan_stopped fs name St.SinkFault h = h
+
+pub told_plan_stopped : (files : Option Files) (name : Bytes) (status : Status) → Told files (λ fs. TellsPlan (fs name) (Err status)) → Told files (λ fs. TellsAnswer fs name (Err status))
+told_plan_stopped files name status h = told_map files (λ fs. TellsPlan (fs name) (Err status)) (λ fs. TellsAnswer fs name (Err status)) h (λ fs k. plan_stopped fs name status k)
 
 data_stopped : (fs : Files) (name : Bytes) (f : PlanFile) (status : Status) → IsPlan (fs name) f → TellsData fs f.datasets (Err status) → TellsAnswer fs name (Err status)
 data_stopped fs name f (St.DataRefused d) plan h = (f, plan, h)
@@ -98,6 +185,25 @@ pub told_evaluated : (files later : Option Files) (name : Bytes) (f g : PlanFile
 told_evaluated files later name f g sets r same is h k e =
     told_both files (λ fs. TellsPlan (fs name) (Ok f)) (λ fs. TellsData fs g.datasets (Ok sets)) (λ fs. TellsAnswer fs name r) h
     (subst (λ (o : Option Files). Told o (λ fs. TellsData fs g.datasets (Ok sets))) same k) (λ fs plan read. evaluated fs name g sets r (subst (IsPlan (fs name)) is plan) read e)
+
+-- rows that a plan gives, and their text
+pub answered : (f : PlanFile) (sets : List Data) (rows : List (List Value)) (text : Bytes) → Gives f.root (sets_of sets) rows → text ≡ out_text (map (λ v. v.name) (live f.root [])) rows → IsAnswer f.root (sets_of sets) text
+answered f sets rows text given is = record { rows = rows; wide = given.wide; allowed = given.allowed; is = is }
+
+-- ---- printing
+
+print_stopped : (fs : Files) (name : Bytes) (status : Status) → TellsPlan (fs name) (Err status) → TellsPrinted fs name (Err status)
+print_stopped fs name (St.PlanRefused r) h = h
+print_stopped fs name St.NoMemory h = tt
+print_stopped fs name St.SourceFault h = tt
+print_stopped fs name St.Done h = h
+print_stopped fs name St.Usage h = h
+print_stopped fs name (St.DataRefused d) h = h
+print_stopped fs name (St.CheckFailed own) h = h
+print_stopped fs name St.SinkFault h = h
+
+pub told_print_stopped : (files : Option Files) (name : Bytes) (status : Status) → Told files (λ fs. TellsPlan (fs name) (Err status)) → Told files (λ fs. TellsPrinted fs name (Err status))
+told_print_stopped files name status h = told_map files (λ fs. TellsPlan (fs name) (Err status)) (λ fs. TellsPrinted fs name (Err status)) h (λ fs k. print_stopped fs name status k)
 
 pub told_printed : (files : Option Files) (name text : Bytes) (f g : PlanFile) → f ≡ g → Told files (λ fs. TellsPlan (fs name) (Ok f)) → text ≡ plan_text g → Told files (λ fs. TellsPrinted fs name (Ok text))
 told_printed files name text f g is h e = told_map files (λ fs. TellsPlan (fs name) (Ok f)) (λ fs. TellsPrinted fs name (Ok text)) h (λ fs plan. (g, subst (IsPlan (fs name)) is plan, e))
