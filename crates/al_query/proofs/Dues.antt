@@ -214,7 +214,6 @@ faulty_and_sound single fs plan own (f, sets, is, good, fault) (g, others, also,
 -- what a command asks for, where it asks for a refusal
 settled_is : AreSingle → (c : Command) (fs : Files) (status due : Status) → IsAsked c fs status → is_settled due ≡ true → IsAsked c fs due → IsDueOrCut due status
 settled_is single c fs St.SourceFault due h s k = inr refl
-settled_is single c fs St.SinkFault due h s k = inr refl
 settled_is single c fs St.NoMemory due h s k = inr refl
 settled_is single c fs status St.SourceFault h s k = cc
 settled_is single c fs status St.SinkFault h s k = cc
@@ -227,6 +226,10 @@ settled_is single c fs St.Usage (St.DataRefused d) h s (plan, of, bad) = absurd 
 settled_is single c fs St.Done St.Usage (text, is) s k = absurd (not_both (is_served c) (text_served c fs text is) k)
 settled_is single c fs St.Done (St.PlanRefused r) (text, is) s (plan, of, bad) = absurd (refused_and_plan single fs plan r bad (text_plan c fs text plan is of))
 settled_is single c fs St.Done (St.DataRefused d) (text, is) s (plan, of, bad) =
+    let served : IsServed fs plan text = text_query c fs text plan is of in absurd (bad_and_good single fs plan d served.file served.sets bad served.plan served.data_read)
+settled_is single c fs St.SinkFault St.Usage (text, is) s k = absurd (not_both (is_served c) (text_served c fs text is) k)
+settled_is single c fs St.SinkFault (St.PlanRefused r) (text, is) s (plan, of, bad) = absurd (refused_and_plan single fs plan r bad (text_plan c fs text plan is of))
+settled_is single c fs St.SinkFault (St.DataRefused d) (text, is) s (plan, of, bad) =
     let served : IsServed fs plan text = text_query c fs text plan is of in absurd (bad_and_good single fs plan d served.file served.sets bad served.plan served.data_read)
 settled_is single c fs (St.PlanRefused r) St.Usage (plan, of, bad) s k = absurd (not_both (is_served c) (plan_served c plan of) k)
 settled_is single c fs (St.PlanRefused r) (St.PlanRefused q) (plan, of, bad) s (name, is, worse) =
@@ -250,7 +253,6 @@ compared single words fs status due c d is also h s k = settled_is single d fs s
 
 due_is : AreSingle → (words : List Bytes) (fs : Files) (status due : Status) → IsDue words fs status → is_settled due ≡ true → IsDue words fs due → IsDueOrCut due status
 due_is single words fs St.SourceFault due h s k = inr refl
-due_is single words fs St.SinkFault due h s k = inr refl
 due_is single words fs St.NoMemory due h s k = inr refl
 due_is single words fs status St.SourceFault h s k = cc
 due_is single words fs status St.SinkFault h s k = cc
@@ -263,6 +265,9 @@ due_is single words fs St.Usage (St.DataRefused d) h s (c, is, k) = settled_is s
 due_is single words fs St.Done St.Usage (c, is, h) s k = settled_is single c fs St.Done St.Usage h s (k c is)
 due_is single words fs St.Done (St.PlanRefused r) (c, is, h) s (d, also, k) = compared single words fs St.Done (St.PlanRefused r) c d is also h s k
 due_is single words fs St.Done (St.DataRefused e) (c, is, h) s (d, also, k) = compared single words fs St.Done (St.DataRefused e) c d is also h s k
+due_is single words fs St.SinkFault St.Usage (c, is, h) s k = settled_is single c fs St.SinkFault St.Usage h s (k c is)
+due_is single words fs St.SinkFault (St.PlanRefused r) (c, is, h) s (d, also, k) = compared single words fs St.SinkFault (St.PlanRefused r) c d is also h s k
+due_is single words fs St.SinkFault (St.DataRefused e) (c, is, h) s (d, also, k) = compared single words fs St.SinkFault (St.DataRefused e) c d is also h s k
 due_is single words fs (St.PlanRefused q) St.Usage (c, is, h) s k = settled_is single c fs (St.PlanRefused q) St.Usage h s (k c is)
 due_is single words fs (St.PlanRefused q) (St.PlanRefused r) (c, is, h) s (d, also, k) = compared single words fs (St.PlanRefused q) (St.PlanRefused r) c d is also h s k
 due_is single words fs (St.PlanRefused q) (St.DataRefused e) (c, is, h) s (d, also, k) = compared single words fs (St.PlanRefused q) (St.DataRefused e) c d is also h s k

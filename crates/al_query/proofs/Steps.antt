@@ -1,10 +1,11 @@
 -- What each step of a command tells of the whole.
-use Rattle.std.proofs.Common.{◌≡◌, ℕ, ◌≤◌, ◌<◌, List, [], ◌∷◌, length, map, Bool, Option, None, Some, Result, Ok, Err, true, false, refl, ap, sym, subst, ◌∙◌, inl, inr, arith}
+use Rattle.std.proofs.Common.{◌≡◌, ℕ, ◌≤◌, ◌<◌, List, [], ◌∷◌, ◌++◌, length, map, Bool, Option, None, Some, Result, Ok, Err, true, false, refl, ap, sym, subst, ◌∙◌, inl, inr, arith}
 use Rattle.std.specs.Prelude.{nat_le, not, if◌then◌else◌, ◌⊎◌, IfOk, IfErr}
 use Rattle.al_value.specs.declared.value.Value.{Value}
-use Rattle.al_io.specs.Outside.{Bytes, Files, Told}
+use Rattle.al_io.specs.Outside.{Bytes, Files, GainsPrefix, Told}
 use Rattle.al_io.specs.FileRead.{TellsFile}
 use Rattle.al_io.specs.declared.source.FileRead.TheVariants as found
+use Rattle.al_csv.specs.Generator.{generated}
 use Rattle.al_csv.specs.Records.{records}
 use Rattle.al_csv.specs.declared.decl.Decl.{Decl}
 use Rattle.al_csv.specs.declared.refused.BadRecord.{BadRecord}
@@ -40,8 +41,8 @@ use Rattle.al_query.specs.declared.status.DataRefused.{DataRefused}
 use Rattle.al_query.specs.declared.status.Status.{Status}
 use Rattle.al_query.specs.declared.status.Status.TheVariants as St
 use Rattle.al_query.specs.declared.data.Loaded.{Loaded}
-use Rattle.al_query.specs.Served.{IsPlan, IsPlanRefused, absent, unread, unaccepted, file_rows, of_file, room_behind, size_of, loaded, IsServed, IsPrinted, IsCompiled, IsExplained, IsText, is_served, plan_of, query_of, IsAsked, IsDue}
-use Rattle.al_query.specs.Tells.{IsStop, TellsPlan, TellsRead, TellsAccepted, TellsSet, TellsBytes, TellsData, TellsEvaluated, Refuses, TellsAnswer, TellsPrinted, TellsExplained, TellsMade, Explains, IsInRange, TellsText, is_idle, is_usage, unread_status}
+use Rattle.al_query.specs.Served.{IsPlan, IsPlanRefused, absent, unread, unaccepted, file_rows, of_file, room_behind, size_of, loaded, IsServed, IsPrinted, IsCompiled, IsExplained, IsText, Writes, is_served, plan_of, query_of, IsAsked, IsDue}
+use Rattle.al_query.specs.Tells.{IsStop, TellsGenerated, TellsPlan, TellsRead, TellsAccepted, TellsSet, TellsBytes, TellsData, TellsEvaluated, Refuses, TellsAnswer, TellsPrinted, TellsExplained, TellsMade, Explains, IsInRange, TellsText, is_idle, is_usage, unread_status}
 use Rattle.al_query.specs.Answer.{IsAnswer}
 use Rattle.al_query.proofs.Dues.{told_map, told_both}
 
@@ -335,3 +336,19 @@ pub idle_of : (words : List Bytes) (c : Command) (status : Status) (Same : Type 
     → (seed rows : ℕ) → (status ≡ St.Usage) ⊎ IsCommand words (C.Gen seed rows) → Same
 idle_of words c status Same one is unserved same seed rows (inl e) = same (idle_unserved c (unserved e))
 idle_of words c status Same one is unserved same seed rows (inr gen) = same (ap is_idle (one words c (C.Gen seed rows) is gen))
+
+-- ---- without a source that tells
+
+generated_text : (c : Command) (text : Bytes) (seed rows : ℕ) → c ≡ C.Gen seed rows → TellsGenerated c (Ok text) → text ≡ generated seed rows
+generated_text c text seed rows is h = subst (λ (x : Command). TellsGenerated x (Ok text)) is h
+
+pub generated_stop : (c : Command) (s : Status) (seed rows : ℕ) (text : Bytes) (old : Option Bytes) → c ≡ C.Gen seed rows → TellsGenerated c (Err s) → Writes text old old s
+generated_stop c s seed rows text old is h =
+    let end : s ≡ St.NoMemory = subst (λ (x : Command). TellsGenerated x (Err s)) is h in
+    subst (λ (x : Status). Writes text old old x) (sym end) refl
+
+pub generated_done : (c : Command) (text : Bytes) (seed rows : ℕ) (old now : Option Bytes) → c ≡ C.Gen seed rows → TellsGenerated c (Ok text) → Told old (λ was. now ≡ Some (was ++ text)) → Told old (λ was. now ≡ Some (was ++ generated seed rows))
+generated_done c text seed rows old now is h k = subst (λ (t : Bytes). Told old (λ was. now ≡ Some (was ++ t))) (generated_text c text seed rows is h) k
+
+pub generated_part : (c : Command) (text : Bytes) (seed rows : ℕ) (old now : Option Bytes) → c ≡ C.Gen seed rows → TellsGenerated c (Ok text) → Told old (λ was. GainsPrefix was text now) → Told old (λ was. GainsPrefix was (generated seed rows) now)
+generated_part c text seed rows old now is h k = subst (λ (t : Bytes). Told old (λ was. GainsPrefix was t now)) (generated_text c text seed rows is h) k

@@ -1,7 +1,7 @@
 -- What the words and the files ask for: which status is due, and what is to be written.
-use Rattle.std.specs.Prelude.{◌≡◌, ◌⊎◌, ℕ, ◌+◌, ◌-◌, Bool, true, false, nat_le, min, List, [], ◌∷◌, length, Option, Some, None, Result, Ok, Err, if◌then◌else◌}
+use Rattle.std.specs.Prelude.{◌≡◌, ◌⊎◌, ℕ, ◌+◌, ◌-◌, Bool, true, false, nat_le, min, List, [], ◌∷◌, ◌++◌, length, Option, Some, None, Result, Ok, Err, if◌then◌else◌}
 use Rattle.al_value.specs.declared.value.Value.{Value}
-use Rattle.al_io.specs.Outside.{Bytes, Files}
+use Rattle.al_io.specs.Outside.{Bytes, Files, GainsPrefix, Told}
 use Rattle.al_csv.specs.Records.{records}
 use Rattle.al_csv.specs.Generator.{generated}
 use Rattle.al_csv.specs.declared.decl.Decl.{Decl}
@@ -207,13 +207,38 @@ is_settled (St.PlanRefused r) = true
 is_settled (St.DataRefused d) = true
 is_settled _ = false
 
--- a status that came before what is due
+-- a status that may come before a refusal that is due; nothing is written then, so a sink's fault is none
 abbrev pub is_cut : Status → Bool
 is_cut St.SourceFault = true
-is_cut St.SinkFault = true
 is_cut St.NoMemory = true
 is_cut _ = false
 
--- what is due is the status, unless a fault outside or want of memory came first
+-- what is due is the status, unless a fault of the source or want of memory came first
 abbrev pub IsDueOrCut : Status → Status → Type 0
 IsDueOrCut due status = (status ≡ due) ⊎ (is_cut status ≡ true)
+
+-- ---- without a source that tells
+
+-- a command that may end so: only one with a plan file is refused for it or reads the source, and only one that reads its data is
+-- refused for that or names a check
+abbrev pub MayEnd : Command → Status → Type 0
+MayEnd c (St.PlanRefused r) = (plan : Bytes) × (plan_of c ≡ Some plan)
+MayEnd c (St.DataRefused d) = (plan : Bytes) × (query_of c ≡ Some plan)
+MayEnd c (St.CheckFailed own) = (plan : Bytes) × (query_of c ≡ Some plan)
+MayEnd c St.SourceFault = (plan : Bytes) × (plan_of c ≡ Some plan)
+MayEnd c _ = Unit {0}
+
+-- the words ask for a command that may end so
+abbrev pub IsFitting : List Bytes → Status → Type 0
+IsFitting words (St.PlanRefused r) = (c : Command) × IsCommand words c × MayEnd c (St.PlanRefused r)
+IsFitting words (St.DataRefused d) = (c : Command) × IsCommand words c × MayEnd c (St.DataRefused d)
+IsFitting words (St.CheckFailed own) = (c : Command) × IsCommand words c × MayEnd c (St.CheckFailed own)
+IsFitting words St.SourceFault = (c : Command) × IsCommand words c × MayEnd c St.SourceFault
+IsFitting words _ = Unit {0}
+
+-- what writing this text, and nothing else, comes to
+abbrev pub Writes : Bytes → Option Bytes → Option Bytes → Status → Type 0
+Writes text old new St.Done = Told old (λ was. new ≡ Some (was ++ text))
+Writes text old new St.SinkFault = Told old (λ was. GainsPrefix was text new)
+Writes text old new St.NoMemory = new ≡ old
+Writes text old new _ = ⊥

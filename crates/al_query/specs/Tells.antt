@@ -3,6 +3,7 @@ use Rattle.std.specs.Prelude.{◌≡◌, ◌<◌, ◌≤◌, ℕ, ◌+◌, Bool,
 use Rattle.std.specs.List.{All}
 use Rattle.al_value.specs.declared.value.Value.{Value}
 use Rattle.al_io.specs.Outside.{Bytes, Files}
+use Rattle.al_csv.specs.Generator.{generated}
 use Rattle.al_csv.specs.Records.{records}
 use Rattle.al_csv.specs.declared.decl.Decl.{Decl}
 use Rattle.al_csv.specs.declared.refused.BadRecord.{BadRecord}
@@ -37,6 +38,13 @@ IsStop St.Done = ⊥
 IsStop St.Usage = ⊥
 IsStop St.SinkFault = ⊥
 IsStop _ = Unit {0}
+
+-- a status that reading, accepting and working on a plan file alone may end with
+abbrev pub IsPlanStop : Status → Type 0
+IsPlanStop (St.PlanRefused r) = Unit {0}
+IsPlanStop St.SourceFault = Unit {0}
+IsPlanStop St.NoMemory = Unit {0}
+IsPlanStop _ = ⊥
 
 abbrev pub is_usage : {T : Type 0} → Result T Status → Bool
 is_usage (Err St.Usage) = true
@@ -176,3 +184,9 @@ is_idle (C.Explain plan partitions) = false
 is_idle (C.Plain plan) = false
 is_idle (C.Step plan settings schedule) = false
 is_idle _ = true
+
+-- what making the text of `gen` gave
+abbrev pub TellsGenerated : Command → Result Bytes Status → Type 0
+TellsGenerated (C.Gen seed rows) (Ok text) = text ≡ generated seed rows
+TellsGenerated (C.Gen seed rows) (Err s) = s ≡ St.NoMemory
+TellsGenerated c r = Unit {0}

@@ -5,10 +5,11 @@ ghost use Rattle.al_io.specs.Outside.{Bytes, Counted, GainsPrefix, Rose, Told};
 ghost use Rattle.al_words.specs.declared.command.Command.{Command as Asked};
 ghost use Rattle.al_words.specs.declared.command.Command.TheVariants as asked;
 ghost use Rattle.al_words.specs.Words.{IsCommand};
+ghost use Rattle.al_csv.specs.Generator.{generated};
 ghost use Rattle.al_query.specs.declared.status.Status.{Status as Ended};
 ghost use Rattle.al_query.specs.Lines.{status_line};
-ghost use Rattle.al_query.specs.Served.{IsDue, IsDueOrCut, IsGood, IsText, is_served, is_settled};
-ghost use Rattle.al_query.specs.Tells.{IsInRange, IsNoEnd, IsStop, TellsPrinted, TellsText, is_idle, is_source_fault, is_usage};
+ghost use Rattle.al_query.specs.Served.{IsDue, IsDueOrCut, IsFitting, IsGood, IsText, MayEnd, Writes, is_served, is_settled};
+ghost use Rattle.al_query.specs.Tells.{IsInRange, IsNoEnd, IsPlanStop, TellsGenerated, TellsPrinted, TellsText, is_idle, is_source_fault, is_usage};
 
 use crate::answer::answer;
 use crate::explain::explained;
@@ -55,7 +56,11 @@ pub fn plain_command<S: Source, K: Sink, E: Sink>(
     ensures sink_fault { result ≡ Status.SinkFault → Rose (K.faults out.old) (K.faults out.new) }
     ensures sink_quiet { result ≢ Status.SinkFault → K.faults out.new ≡ K.faults out.old }
 
-    // What `err` gained.
+    // What holds whatever the source tells: which commands may end so, and what `gen` writes.
+    ensures fitting { IsFitting (map string_bytes words.now) result }
+    ensures generates { (seed rows : ℕ) → IsCommand (map string_bytes words.now) (asked.Gen seed rows) → Writes (generated seed rows) (K.written out.old) (K.written out.new) result }
+
+    // What `err` gained. Its faults change no status, since no clause on the status speaks of them.
     ensures line { E.faults err.new ≡ E.faults err.old → E.faults err.old < 2 ^ 64 - 1
         → Told (E.written err.old) (λ was. E.written err.new ≡ Some (was ++ status_line result)) }
     ensures line_part { Told (E.written err.old) (λ was. GainsPrefix was (status_line result) (E.written err.new)) }
@@ -78,6 +83,8 @@ fn serve<S: Source, K: Sink>(alloc: Global, words: &[String], source: &mut S, ou
     ensures usage { result ≡ Status.Usage → (c : Asked) → IsCommand (map string_bytes words.now) c → is_served c ≡ false }
     ensures refused_words { ((c : Asked) → IsCommand (map string_bytes words.now) c → is_served c ≡ false) → (result ≡ Status.Usage) ⊎ (result ≡ Status.NoMemory) }
     ensures cause { Told (S.files source.old) (λ fs. IsDue (map string_bytes words.now) fs result) }
+    ensures fitting { IsFitting (map string_bytes words.now) result }
+    ensures generates { (seed rows : ℕ) → IsCommand (map string_bytes words.now) (asked.Gen seed rows) → Writes (generated seed rows) (K.written out.old) (K.written out.new) result }
     ensures idle { (seed rows : ℕ) → (result ≡ Status.Usage) ⊎ IsCommand (map string_bytes words.now) (asked.Gen seed rows) → source.new ≡ source.old }
     ensures source_fault { result ≡ Status.SourceFault → Rose (S.faults source.old) (S.faults source.new) }
     ensures source_quiet { result ≢ Status.SourceFault → S.faults source.new ≡ S.faults source.old }
@@ -109,6 +116,8 @@ fn command_text<S: Source>(
     requires { IsInRange command.now }
     ensures tells { Told (S.files source.old) (λ fs. TellsText command.now fs result) }
     ensures stops { IfErr result IsNoEnd }
+    ensures ends { IfErr result (MayEnd command.now) }
+    ensures generates { TellsGenerated command.now result }
     ensures usage { is_usage result ≡ not (is_served command.now) }
     ensures idle { is_idle command.now ≡ true → source.new ≡ source.old }
     ensures cause { Counted (is_source_fault result) (S.faults source.old) (S.faults source.new) }
@@ -133,7 +142,7 @@ fn command_text<S: Source>(
 /// The canonical text of a plan file that is accepted; no dataset is opened.
 fn printed<S: Source>(alloc: Global, name: &str, source: &mut S) -> Result<List<u8>, Status>
     ensures tells { Told (S.files source.old) (λ fs. TellsPrinted fs name.now result) }
-    ensures stops { IfErr result IsStop }
+    ensures stops { IfErr result IsPlanStop }
     ensures cause { Counted (is_source_fault result) (S.faults source.old) (S.faults source.new) }
 {
     let file = match read_accepted(alloc, name, source) {

@@ -3,7 +3,7 @@
 ghost use Rattle.std.specs.Prelude.{◌≡◌, ◌<◌, ◌≤◌, IfErr, IfOk};
 ghost use Rattle.al_io.specs.Outside.{Counted, Told};
 ghost use Rattle.al_plan.specs.Refines.{Fit};
-ghost use Rattle.al_query.specs.Tells.{Explains, IsStop, TellsExplained, is_source_fault};
+ghost use Rattle.al_query.specs.Tells.{Explains, IsPlanStop, TellsExplained, is_source_fault};
 
 use crate::compiler::compile_plan;
 use crate::plan::read_accepted;
@@ -25,7 +25,7 @@ pub fn explained<S: Source>(
     requires some { 0 < partitions }
     requires few { partitions ≤ 16 }
     ensures tells { Told (S.files source.old) (λ fs. TellsExplained fs name.now partitions result) }
-    ensures stops { IfErr result IsStop }
+    ensures stops { IfErr result IsPlanStop }
     ensures cause { Counted (is_source_fault result) (S.faults source.old) (S.faults source.new) }
 {
     let file = match read_accepted(alloc, name, source) {

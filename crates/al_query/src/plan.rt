@@ -5,7 +5,7 @@ ghost use Rattle.al_io.specs.Outside.{Counted, Told};
 ghost use Rattle.al_plan.specs.Refines.{Fit};
 ghost use Rattle.al_read.specs.Reads as reads;
 ghost use Rattle.al_plan.specs.Accept.{HasPlaces, IsAccepted};
-ghost use Rattle.al_query.specs.Tells.{IsStop, TellsAccepted, TellsPlan, TellsRead, is_source_fault, unread_status};
+ghost use Rattle.al_query.specs.Tells.{IsPlanStop, TellsAccepted, TellsPlan, TellsRead, is_source_fault, unread_status};
 
 use crate::status::Status;
 use al_infer::{acceptance_laws, refusal};
@@ -25,7 +25,7 @@ pub fn read_accepted<S: Source>(
     ensures tells { Told (S.files source.old) (λ fs. TellsPlan (fs name.now) result) }
     ensures fits { IfOk result (λ f. Fit f.root) }
     ensures accepted { IfOk result IsAccepted }
-    ensures stops { IfErr result IsStop }
+    ensures stops { IfErr result IsPlanStop }
     ensures cause { Counted (is_source_fault result) (S.faults source.old) (S.faults source.new) }
 {
     match read_file(alloc, source, name, MAX_PLAN) {
@@ -48,7 +48,7 @@ pub fn accept_text(alloc: Global, bytes: &[u8]) -> Result<Boxed<PlanFile>, Statu
     ensures tells { TellsPlan (Some bytes.now) result }
     ensures fits { IfOk result (λ f. Fit f.root) }
     ensures accepted { IfOk result IsAccepted }
-    ensures stops { IfErr result IsStop }
+    ensures stops { IfErr result IsPlanStop }
     ensures cause { is_source_fault result ≡ false }
 {
     acceptance_laws();

@@ -1,7 +1,8 @@
 use Rattle.std.proofs.Common.{◌≡◌, ◌++◌, Some, inl, inr, refl}
 use Rattle.al_io.specs.Outside.{GainsPrefix}
 use Rattle.al_query.specs.declared.status.Status.TheVariants as St
-use Rattle.al_query.proofs.Steps.{idle_of, in_range, told_due_of, told_usage, told_wrote, unserved, usage_of}
+use Rattle.al_words.specs.declared.command.Command.TheVariants as C
+use Rattle.al_query.proofs.Steps.{generated_done, generated_part, generated_stop, idle_of, in_range, told_due_of, told_usage, told_wrote, unserved, usage_of}
 use Rattle.al_query.proofs.command.serve.Goals as goal
 
 pub command_text-requires : goal.command_text-requires
@@ -36,3 +37,17 @@ returns-clause-sink_part g c =
 
 pub returns-clause-idle : goal.returns-clause-idle
 returns-clause-idle g c = idle_of _ c.in-Ok.command St.SinkFault _ c.one_command.ensures c.in-Ok.ensures (λ e. cc) c.in-Ok-command_text.ensures.idle
+
+pub returns-in-Err-clause-generates : goal.returns-in-Err-clause-generates
+returns-in-Err-clause-generates g c seed rows is =
+    generated_stop c.in-Ok.command c.in-Err.status seed rows _ _ (c.one_command.ensures _ c.in-Ok.command (C.Gen seed rows) c.in-Ok.ensures is) c.in-Err.ensures.generates
+
+pub returns-in-Ok-write_whole-clause-generates : goal.returns-in-Ok-write_whole-clause-generates
+returns-in-Ok-write_whole-clause-generates g c seed rows is =
+    generated_done c.in-Ok.command c.in-Ok-command_text.text seed rows _ _ (c.one_command.ensures _ c.in-Ok.command (C.Gen seed rows) c.in-Ok.ensures is) c.in-Ok-command_text.ensures.generates
+    (rw c.as_slice.ensures at c.in-Ok-write_whole.ensures.ok)
+
+pub returns-clause-generates : goal.returns-clause-generates
+returns-clause-generates g c seed rows is =
+    generated_part c.in-Ok.command c.in-Ok-command_text.text seed rows _ _ (c.one_command.ensures _ c.in-Ok.command (C.Gen seed rows) c.in-Ok.ensures is) c.in-Ok-command_text.ensures.generates
+    (rw c.as_slice.ensures at c.in-Err-write_whole.ensures.err)
