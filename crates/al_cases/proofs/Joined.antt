@@ -18,19 +18,19 @@ use Rattle.al_plan.proofs.Moves.{IsPermutation-one, IsPermutation-flat_map}
 use Rattle.al_cases.specs.Cases.{t, u, a, b, n, int, row, pair, scan_a, scan_b, Answers, two_and_one, UnionKeepsAll, same, LeftJoinAlone, JoinDropsAlone, NullsDoNotJoin, one_column}
 use Rattle.al_cases.proofs.Simple.{scanned, of_scan, row-at, empty_input}
 
-abbrev ones : List Env
+abbrev pub ones : List Env
 ones = row a (int 1) ∷ row a (int 2) ∷ []
 
-abbrev one : List Env
+abbrev pub one : List Env
 one = row b (int 1) ∷ []
 
-lefts : Answers two_and_one scan_a ones
+pub lefts : Answers two_and_one scan_a ones
 lefts = scanned two_and_one ones (IsPermutation-refl ones)
 
-rights : Answers two_and_one scan_b one
+pub rights : Answers two_and_one scan_b one
 rights = allows_Scan u (b ∷ []) false two_and_one [] [] one (IsPermutation-refl one)
 
-the_right : (rows : List Env) → Answers two_and_one scan_b rows → rows ≡ one
+pub the_right : (rows : List Env) → Answers two_and_one scan_b rows → rows ≡ one
 the_right rows h = IsPermutation-one (row b (int 1)) rows (from_Scan u (b ∷ []) false two_and_one [] [] rows h)
 
 -- ---- union
@@ -38,7 +38,7 @@ the_right rows h = IsPermutation-one (row b (int 1)) rows (from_Scan u (b ∷ []
 rename_a : (v : Value) → renamed (n ∷ []) (a ∷ []) (row a v) ≡ row n v
 rename_a v = ap (λ w. row n w) (row-at v)
 
-row_b : (v : Value) → row b v b.name ≡ v
+pub row_b : (v : Value) → row b v b.name ≡ v
 unfolding bind
 row_b v = refl
 
@@ -89,7 +89,7 @@ pair_a : (v w : Value) → pair v w a.name ≡ v
 unfolding bind
 pair_a v w = refl
 
-pair_b : (v w : Value) → pair v w b.name ≡ w
+pub pair_b : (v w : Value) → pair v w b.name ≡ w
 unfolding bind
 pair_b v w = refl
 
@@ -103,16 +103,16 @@ holds_same v w = ap is_true (eval_same (pair v w) ∙ (λ i. equal (pair_a v w i
 matched : (v w : Value) → matches (a ∷ []) same (row b w ∷ []) (row a v) ≡ cond (is_true (equal v w)) (pair v w ∷ []) []
 matched v w = ap (λ (r : Env). filter (holds same) (r ∷ [])) (beside-rows a b v w) ∙ ap (λ h. cond h (pair v w ∷ []) []) (holds_same v w)
 
-abbrev alone : List Env → Env → List Env
+abbrev pub alone : List Env → Env → List Env
 alone rights l = or_alone (beside (a ∷ []) l nulls) (matches (a ∷ []) same rights l)
 
-left_rows : flat_map (alone one) ones ≡ pair (int 1) (int 1) ∷ pair (int 2) V.Null ∷ []
+pub left_rows : flat_map (alone one) ones ≡ pair (int 1) (int 1) ∷ pair (int 2) V.Null ∷ []
 left_rows = λ i. or_alone (beside (a ∷ []) (row a (int 1)) nulls) (matched (int 1) (int 1) i) ++ (or_alone (beside_null (int 2) i) (matched (int 2) (int 1) i) ++ [])
 
 inner_rows : flat_map (matches (a ∷ []) same one) ones ≡ pair (int 1) (int 1) ∷ []
 inner_rows = λ i. matched (int 1) (int 1) i ++ (matched (int 2) (int 1) i ++ [])
 
-live_a : live scan_a [] ≡ a ∷ []
+pub live_a : live scan_a [] ≡ a ∷ []
 live_a = live-Scan t (a ∷ []) []
 
 pub left_join_alone : LeftJoinAlone

@@ -3,3 +3,4 @@ pub mod Ordered
 pub mod Joined
 pub mod Nests
 pub mod Groups
+pub mod Refining

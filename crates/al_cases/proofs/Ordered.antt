@@ -19,10 +19,10 @@ use Rattle.al_cases.proofs.Simple.{two_orders, scanned, of_scan, row-at, holds-b
 
 -- ---- check
 
-abbrev checked : Plan
+abbrev pub checked : Plan
 checked = P.Check small (below 15) scan_a
 
-abbrev both : List Env
+abbrev pub both : List Env
 both = row a (int 1) ∷ row a (int 20) ∷ []
 
 -- how a check over the scan faults, and how a check under another or under a limit does
@@ -48,7 +48,7 @@ the_name name h = named_so name (subst (λ (x : Type 0). x) (lower_layer name) h
 scanned_passing : Allows scan_a true one_and_twenty [] [] both
 scanned_passing = allows_Scan t (a ∷ []) true one_and_twenty [] [] both (IsPermutation-refl both)
 
-lower_faults : Faults checked one_and_twenty [] [] small
+pub lower_faults : Faults checked one_and_twenty [] [] small
 lower_faults = subst (λ (x : Type 0). x) (sym (lower_layer small)) (inl (refl, (both, row a (int 20), scanned_passing, (1, omega arith, refl), holds-below 15 (int 20))))
 
 checked_passing : Allows checked true one_and_twenty [] [] both
@@ -109,7 +109,7 @@ cmp-rows : (falling : Bool) (v w : Value) → keys_cmp (by_a falling) (row a v) 
 cmp-rows falling v w = λ i. ordering_then (directed falling (value_cmp (row-at v i) (row-at w i))) Equal
 
 module _ (falling : Bool) (v w : Value) (rising : is_lt (ordering_then (directed falling (value_cmp v w)) Equal) ≡ true) (not_back : is_lt (ordering_then (directed falling (value_cmp w v)) Equal) ≡ false) where
-  sorted : IsSorted (keys_cmp (by_a falling)) (row a v ∷ row a w ∷ [])
+  pub sorted : IsSorted (keys_cmp (by_a falling)) (row a v ∷ row a w ∷ [])
   sorted zero d low high = ap is_lt (cmp-rows falling w v) ∙ not_back
   sorted (suc k) d low high = absurd (omega arith)
 
@@ -132,8 +132,15 @@ order_rises = orders_two false V.Null (int 1) refl refl
 pub order_falls : OrderFalls
 order_falls = orders_two true (int 2) (int 1) refl refl
 
-abbrev rows_up : Plan
+abbrev pub rows_up : Plan
 rows_up = P.Order (by_a false) scan_a
+
+-- 1 and 2 come in this order
+pub rises_only : (rows : List Env) → Allows rows_up false one_and_two [] [] rows → rows ≡ row a (int 1) ∷ row a (int 2) ∷ []
+rises_only rows h =
+    let under = from_Order (by_a false) scan_a false one_and_two [] [] rows h in
+    let moved = IsPermutation-trans _ _ _ (of_scan one_and_two under.0 under.1) under.2.0 in
+    ⊎_elim (λ e. e) (λ e. absurd (unsorted false (int 1) (int 2) refl refl (subst (IsSorted (keys_cmp (by_a false))) e under.2.1))) (two_orders (row a (int 1)) (row a (int 2)) rows moved)
 
 pub limit_skips : LimitSkips
 limit_skips = record {
@@ -141,10 +148,7 @@ limit_skips = record {
       (low, allows_Order (by_a false) scan_a false one_and_two [] [] low (low, scanned one_and_two low (IsPermutation-refl low), (IsPermutation-refl low, sorted false (int 1) (int 2) refl refl)), refl);
   no_other = λ others h.
       let over = from_Limit 1 1 rows_up false one_and_two [] [] others h in
-      let under = from_Order (by_a false) scan_a false one_and_two [] [] over.0 over.1 in
-      let moved = IsPermutation-trans _ _ _ (of_scan one_and_two under.0 under.1) under.2.0 in
-      let only = ⊎_elim (λ e. e) (λ e. absurd (unsorted false (int 1) (int 2) refl refl (subst (IsSorted (keys_cmp (by_a false))) e under.2.1))) (two_orders (row a (int 1)) (row a (int 2)) over.0 moved) in
-      over.2 ∙ ap (λ (rows : List Env). take 1 (drop 1 rows)) only;
+      over.2 ∙ ap (λ (rows : List Env). take 1 (drop 1 rows)) (rises_only over.0 over.1);
 }
 
 abbrev tied : Sets

@@ -1,3 +1,4 @@
+ghost use Rattle.al_cases.specs.RefineCases.{AnyForLeast, CheckForScan, EmptyProjectFits, GreatestForLeast, InnerResultFits, LeastForAny, PushedForAbove, ScanFits, ScanForCheck};
 ghost use Rattle.al_cases.specs.Cases.{ScanIsFree, EmptyIsOneRow, AssignAdds, SelectDropsNull, ProjectCuts, ResultCuts, UnnestGivesPieces, UnnestKeepsOrder, SubplanCounts, JoinDropsAlone, NullsDoNotJoin, LeftJoinAlone, NullIsAGroup, GroupForEachKey, NoRowsNoGroup, DistinctNull, UnionKeepsAll, NothingIsCounted, OrderRises, OrderFalls, TiesAreFree, LimitTakesAny, LimitSkips, CheckSeesAll, ChecksFaultBoth, CheckPasses};
 
 /// Small plans, and which lists of rows they allow. It does nothing: its clauses are worked cases.
@@ -28,4 +29,18 @@ pub fn worked_cases()
     ensures check { CheckSeesAll }
     ensures two_checks { ChecksFaultBoth }
     ensures check_passes { CheckPasses }
+{}
+
+/// Small plans that fit or may stand for one another, and some that don't. It does nothing: its
+/// clauses are worked cases.
+pub fn refine_cases()
+    ensures least_for_any { LeastForAny }
+    ensures any_for_least { AnyForLeast → ⊥ }
+    ensures greatest_for_least { GreatestForLeast → ⊥ }
+    ensures pushed_for_above { PushedForAbove → ⊥ }
+    ensures check_for_scan { CheckForScan → ⊥ }
+    ensures scan_for_check { ScanForCheck → ⊥ }
+    ensures scan_fits { ScanFits }
+    ensures empty_project_fits { EmptyProjectFits → ⊥ }
+    ensures inner_result_fits { InnerResultFits → ⊥ }
 {}

@@ -3,4 +3,4 @@
 
 mod cases;
 
-pub use cases::worked_cases;
+pub use cases::{refine_cases, worked_cases};

@@ -1,4 +1,4 @@
-use al_cases::worked_cases;
+use al_cases::{refine_cases, worked_cases};
 use al_func::Func;
 use al_plan::{Expr, Plan, Var, live, ordered, plan_laws, uses};
 use al_value::{List, Name, NoMemory, Text, Value};
@@ -51,4 +51,5 @@ fn tells_of_the_empty_plan(rt: HostRuntime) -> Result<(), Fail> {
 fn calls_the_laws() {
     plan_laws();
     worked_cases();
+    refine_cases();
 }
