@@ -28,16 +28,28 @@ fn shown(alloc: Global, printed: &str) -> Result<String, Fail> {
     Ok(text)
 }
 
-/// What a plan gives over `emp` and `dept`.
-fn answer(alloc: Global, listed: &str, plan: &str) -> Result<String, Fail> {
-    let file = file_of(alloc, listed, plan)?;
-    let case = Case::over_emp("plain p", file.as_str(), EMP, Some(DEPT_DATA));
+/// What a plan file gives over `emp` and `dept`.
+fn answer(alloc: Global, file: &str) -> Result<String, Fail> {
+    let case = Case::over_emp("plain p", file, EMP, Some(DEPT_DATA));
     let left = serve(alloc, &case)?;
     shown(alloc, from_utf8(left.out.bytes()).unwrap_or(""))
 }
 
+/// Whether a plan file, which is one line of canonical text, is printed as it is.
+fn is_printed(alloc: Global, file: &str) -> Result<bool, Fail> {
+    let left = serve(alloc, &Case::of_plan("check p", file))?;
+    let line = format!(in alloc; "{file}\n")?;
+    Ok(left.code == 0 && left.out.bytes() == line.as_bytes())
+}
+
+/// Whether a plan file is explained.
+fn is_explained(alloc: Global, file: &str) -> Result<bool, Fail> {
+    let left = serve(alloc, &Case::of_plan("explain p --partitions 3", file))?;
+    Ok(left.code == 0 && left.out.bytes().starts_with(b"trace\n"))
+}
+
 /// The variables that are listed, a plan in which SCAN stands for the scan of emp, and its rows.
-const ANSWERS: [(&str, &str, &str); 13] = [
+const ANSWERS: [(&str, &str, &str); 17] = [
     (
         "$id $name $dept $pay",
         "(select (eq $dept \"X\") SCAN)",
@@ -91,12 +103,36 @@ const ANSWERS: [(&str, &str, &str); 13] = [
         "(project ($id) (check small (lt (coalesce $pay 0) 100) SCAN))",
         "1;2;3;4",
     ),
+    (
+        "$x $y",
+        "(assign (($y (add $x 1))) (unnest $x (range 1 4) (empty)))",
+        "1,2;2,3;3,4;4,5",
+    ),
+    (
+        "$piece",
+        "(unnest $piece (split \"v-w-x-y-z\" \"-\") (empty))",
+        "v;w;x;y;z",
+    ),
+    (
+        "$rest $all",
+        "(order (($rest asc)) (group (($rest $m)) (aggregate (($all (countall))) (nested)) (assign (($m (mod $x 4))) (unnest $x (range 1 10) (empty)))))",
+        "0,2;1,3;2,3;3,2",
+    ),
+    (
+        "$m",
+        "(order (($m desc)) (distinct (project ($m) (assign (($m (mod $x 5))) (unnest $x (range 1 12) (empty))))))",
+        "4;3;2;1;0",
+    ),
 ];
 
+/// Together the plans have each operator, aggregate and generator.
 #[test]
-fn evaluates_plans(rt: HostRuntime) -> Result<(), Fail> {
+fn plans_are_evaluated_printed_and_explained(rt: HostRuntime) -> Result<(), Fail> {
     for (listed, plan, wanted) in ANSWERS {
-        assert_eq!(rt; answer(rt.alloc(), listed, plan)?.as_str(), wanted);
+        let file = file_of(rt.alloc(), listed, plan)?;
+        assert_eq!(rt; answer(rt.alloc(), file.as_str())?.as_str(), wanted);
+        assert!(rt; is_printed(rt.alloc(), file.as_str())?);
+        assert!(rt; is_explained(rt.alloc(), file.as_str())?);
     }
     Ok(())
 }
