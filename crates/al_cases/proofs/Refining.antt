@@ -16,12 +16,12 @@ use Rattle.al_plan.specs.declared.plan.Plan.TheOpen as L
 use Rattle.al_plan.specs.declared.plan.Plan.TheVariants as P
 use Rattle.al_plan.specs.Eval.{Env, eval, holds}
 use Rattle.al_plan.specs.Allows.{Sets, Allows, Faults, live, ordered, nulls, is_among}
-use Rattle.al_plan.specs.Refines.{Scan, scans, makes, result_of, FitsEach, Narrow, Fit, Fills, Fitting, IsWithin, NoTwice, Refines}
+use Rattle.al_plan.specs.Refines.{IsNoMore, Scan, scans, makes, result_of, FitsEach, Narrow, Fit, Fills, Fitting, IsWithin, NoTwice, Refines}
 use Rattle.al_plan.proofs.EvalLaws.{eval-Call, eval-Var, eval-Lit}
 use Rattle.al_plan.proofs.PlanLaws.{EachLayer, NarrowLayer, each-roll, narrow-roll, result-roll, makes-roll, scans-roll, live-Scan, live-Project, live-Limit, live-Order, ordered-Scan, ordered-Limit, ordered-Order, scans-Scan, scans-Limit, scans-Order, scans-Select, scans-LeftJoin, result-Limit, result-Order, result-Result, allows_Scan, from_Scan, allows_Limit, from_Limit, from_Order, allows_Select, from_Select, allows_LeftJoin, from_Check, faults-Scan, faults-Limit, faults-Order}
 use Rattle.al_plan.proofs.Idle.{refines_here}
 use Rattle.al_cases.specs.Cases.{t, u, a, b, int, row, pair, scan_a, scan_b, below, same, small, by_a, first_one, one_and_two, one_and_twenty, two_and_one, one_column, Answers}
-use Rattle.al_cases.specs.RefineCases.{least, greatest, few, above, pushed, checked, LeastForAny, AnyForLeast, GreatestForLeast, PushedForAbove, CheckForScan, ScanForCheck, ScanFits, EmptyProjectFits, InnerResultFits}
+use Rattle.al_cases.specs.RefineCases.{least, greatest, few, above, pushed, checked, LeastForAny, AnyForLeast, GreatestForLeast, PushedForAbove, CheckForScan, ScanForCheck, ScanFits, EmptyProjectFits, InnerResultFits, LeastInPlace, noting, NotingInPlace}
 use Rattle.al_cases.proofs.Simple.{scanned, row-at, holds-below}
 use Rattle.al_cases.proofs.Ordered.{rows_up, rises_only, order_falls, both, lower_faults}
 use Rattle.al_cases.proofs.Joined.{ones, one, lefts, rights, left_rows, live_a, row_b, pair_b}
@@ -254,3 +254,31 @@ pushed_for_above r =
     let kept : filter (holds few) joined ≡ pair (int 1) (int 1) ∷ [] = rw (few_pair (int 1) (int 1), few_pair (int 2) V.Null) refl in
     let many = ap length (sym kept ∙ again) in
     omega arith
+
+-- ---- in the place of another
+
+least_makes : makes least ≡ a ∷ []
+least_makes = ap makes (sym (P.rolls-Limit 1 0 rows_up)) ∙ makes-roll (L.Limit 1 0 rows_up) ∙ up_makes
+
+first_makes : makes first_one ≡ a ∷ []
+first_makes = ap makes (sym (P.rolls-Limit 1 0 scan_a)) ∙ makes-roll (L.Limit 1 0 scan_a) ∙ scan_makes
+
+pub least_in_place : LeastInPlace
+least_in_place = record {
+  refines = least_for_any;
+  makes_no_more = subst (λ (vars : List Var). IsNoMore vars (makes first_one)) (first_makes ∙ sym least_makes) (λ q none. none);
+}
+
+abbrev with_b : Plan
+with_b = P.Assign ((b, below 15) ∷ []) scan_a
+
+noting_makes : makes noting ≡ a ∷ b ∷ []
+noting_makes =
+    ap makes (sym (P.rolls-Project (a ∷ []) with_b)) ∙ makes-roll (L.Project (a ∷ []) with_b)
+    ∙ ap makes (sym (P.rolls-Assign ((b, below 15) ∷ []) scan_a)) ∙ makes-roll (L.Assign ((b, below 15) ∷ []) scan_a) ∙ ap (λ (vars : List Var). vars ++ b ∷ []) scan_makes
+
+pub noting_in_place : NotingInPlace → ⊥
+noting_in_place r =
+    let fresh : is_among (makes scan_a) b.name ≡ false = subst (λ (vars : List Var). is_among vars b.name ≡ false) (sym scan_makes) refl in
+    let gone : is_among (a ∷ b ∷ []) b.name ≡ false = subst (λ (vars : List Var). is_among vars b.name ≡ false) noting_makes (r.makes_no_more b.name fresh) in
+    true≢false gone

@@ -5,7 +5,7 @@ use Rattle.al_plan.specs.declared.expr.Expr.{Expr}
 use Rattle.al_plan.specs.declared.expr.Expr.TheVariants as E
 use Rattle.al_plan.specs.declared.plan.Plan.{Plan}
 use Rattle.al_plan.specs.declared.plan.Plan.TheVariants as P
-use Rattle.al_plan.specs.Refines.{Fit, Refines}
+use Rattle.al_plan.specs.Refines.{Fit, Refines, Replaces}
 use Rattle.al_cases.specs.Cases.{a, b, int, scan_a, scan_b, below, same, small, by_a, first_one}
 
 -- the row of a with the least value, and the one with the greatest
@@ -63,3 +63,14 @@ EmptyProjectFits = Fit (P.Result (a ∷ []) (P.Project [] scan_a))
 -- nor does a result under another operator
 abbrev pub InnerResultFits : Type 0
 InnerResultFits = Fit (P.Distinct (P.Result (a ∷ []) scan_a))
+
+-- a limit over an order may also stand in the place of the limit over the scan within a greater plan
+abbrev pub LeastInPlace : Type 0
+LeastInPlace = Replaces least first_one
+
+-- a plan that makes one variable more may not, though it drops it again
+abbrev pub noting : Plan
+noting = P.Project (a ∷ []) (P.Assign ((b, below 15) ∷ []) scan_a)
+
+abbrev pub NotingInPlace : Type 0
+NotingInPlace = Replaces noting scan_a

@@ -1,4 +1,4 @@
-ghost use Rattle.al_cases.specs.RefineCases.{AnyForLeast, CheckForScan, EmptyProjectFits, GreatestForLeast, InnerResultFits, LeastForAny, PushedForAbove, ScanFits, ScanForCheck};
+ghost use Rattle.al_cases.specs.RefineCases.{AnyForLeast, CheckForScan, EmptyProjectFits, GreatestForLeast, InnerResultFits, LeastForAny, LeastInPlace, NotingInPlace, PushedForAbove, ScanFits, ScanForCheck};
 ghost use Rattle.al_cases.specs.Cases.{ScanIsFree, EmptyIsOneRow, AssignAdds, SelectDropsNull, ProjectCuts, ResultCuts, UnnestGivesPieces, UnnestKeepsOrder, SubplanCounts, JoinDropsAlone, NullsDoNotJoin, LeftJoinAlone, NullIsAGroup, GroupForEachKey, NoRowsNoGroup, DistinctNull, UnionKeepsAll, NothingIsCounted, OrderRises, OrderFalls, TiesAreFree, LimitTakesAny, LimitSkips, CheckSeesAll, ChecksFaultBoth, CheckPasses};
 
 /// Small plans, and which lists of rows they allow. It does nothing: its clauses are worked cases.
@@ -40,6 +40,8 @@ pub fn refine_cases()
     ensures pushed_for_above { PushedForAbove → ⊥ }
     ensures check_for_scan { CheckForScan → ⊥ }
     ensures scan_for_check { ScanForCheck → ⊥ }
+    ensures least_in_place { LeastInPlace }
+    ensures noting_in_place { NotingInPlace → ⊥ }
     ensures scan_fits { ScanFits }
     ensures empty_project_fits { EmptyProjectFits → ⊥ }
     ensures inner_result_fits { InnerResultFits → ⊥ }

@@ -1,4 +1,4 @@
-use Rattle.al_cases.proofs.Refining.{least_for_any, any_for_least, greatest_for_least, pushed_for_above, check_for_scan, scan_for_check, scan_fits, empty_project_fits, inner_result_fits}
+use Rattle.al_cases.proofs.Refining.{least_for_any, any_for_least, greatest_for_least, pushed_for_above, least_in_place, noting_in_place, check_for_scan, scan_for_check, scan_fits, empty_project_fits, inner_result_fits}
 use Rattle.al_cases.proofs.cases.refine_cases.Goals as goal
 
 pub returns-clause-least_for_any : goal.returns-clause-least_for_any
@@ -27,3 +27,9 @@ returns-clause-inner_result_fits c = inner_result_fits
 
 pub returns-clause-pushed_for_above : goal.returns-clause-pushed_for_above
 returns-clause-pushed_for_above c = pushed_for_above
+
+pub returns-clause-least_in_place : goal.returns-clause-least_in_place
+returns-clause-least_in_place c = least_in_place
+
+pub returns-clause-noting_in_place : goal.returns-clause-noting_in_place
+returns-clause-noting_in_place c = noting_in_place
