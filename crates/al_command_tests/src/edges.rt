@@ -63,7 +63,8 @@ fn union_of(alloc: Global, number: usize, pair: &[String]) -> Result<String, Fai
     let [left, right] = pair else {
         return Err(Fail::from("no pair"));
     };
-    let (below, beside) = (2 * number, 2 * number + 1);
+    let below = number.saturating_mul(2);
+    let beside = below.saturating_add(1);
     Ok(format!(in alloc; "(union ($v{number}) ($v{below}) ($v{beside}) {left} {right})")?)
 }
 

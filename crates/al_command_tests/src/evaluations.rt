@@ -6,6 +6,15 @@ use std::alloc::Global;
 use std::str::from_utf8;
 use std::test::Fail;
 
+fn show_cell(text: &mut String, cell: &str) -> Result<(), Fail> {
+    if cell.is_empty() || cell == "\"\"" {
+        text.push('-')?;
+    } else {
+        text.push_str(cell)?;
+    }
+    Ok(())
+}
+
 /// The records behind the header: cells between commas, records between semicolons, and a dash for
 /// NULL.
 fn shown(alloc: Global, printed: &str) -> Result<String, Fail> {
@@ -14,15 +23,11 @@ fn shown(alloc: Global, printed: &str) -> Result<String, Fail> {
         if !text.as_str().is_empty() {
             text.push(';')?;
         }
-        let mut separator = "";
-        for cell in line.split(',') {
-            text.push_str(separator)?;
-            separator = ",";
-            text.push_str(if cell.is_empty() || cell == "\"\"" {
-                "-"
-            } else {
-                cell
-            })?;
+        for (place, cell) in line.split(',').enumerate() {
+            if place > 0 {
+                text.push(',')?;
+            }
+            show_cell(&mut text, cell)?;
         }
     }
     Ok(text)
