@@ -1,15 +1,16 @@
 -- Each step on the abort word keeps its rule.
-use Rattle.std.proofs.Common.{◌≡◌, ◌<◌, ◌≤◌, ◌+◌, ◌-◌, ◌%◌, ◌^◌, ℕ, zero, suc, List, [], ◌∷◌, ◌++◌, length, get_or, slice_index, set, sym, refl, ap, ◌∙◌, subst, inl, inr, arith}
+use Rattle.std.proofs.Common.{◌≡◌, ◌<◌, ◌≤◌, ◌+◌, ◌-◌, ◌%◌, ℕ, zero, suc, List, [], ◌∷◌, ◌++◌, length, get_or, slice_index, set, sym, refl, ap, ◌∙◌, subst, inl, inr, arith}
 use Rattle.std.specs.Prelude.{All, sum_by}
 use Rattle.std.proofs.lemmas.List.Elements.{All-get_or, All-head, All-push, All-set, All-tail, All-weaker}
 use Rattle.std.proofs.lemmas.List.Sums.{sum_by-cons, sum_by-set, sum_by_push}
 use Rattle.std.proofs.Math.Nat.{mod-eq_of_lt}
 use mathlib.Core.Option.{some, some-injective, some-ne-none}
 use lib.ListN.{get_elem?}
-use Rattle.atomic_table.specs.Table.{Allows, Final, Joins, Me, Seen, Splits, State, keeps}
+use Rattle.atomic_table.specs.Table.{Final, Seen, State, keeps}
 use Rattle.atomic_table.proofs.Lists.{at_set}
 use Rattle.hy_abort.specs.declared.rule.SeatView.{SeatView}
-use Rattle.hy_abort.specs.Rule.{Fits, IsSum, Looked, Raised, joined, less_one, raises_in, seats_in, stands_for}
+use Rattle.hy_abort.specs.Laws.{Begins, DealKeeps, LookKeeps, NeverWraps, RaiseKeeps, TakeInKeeps}
+use Rattle.hy_abort.specs.Rule.{Fits, IsSum, joined, less_one, raises_in, seats_in, stands_for}
 
 there : (xs : List SeatView) (i : ℕ) (x : SeatView) → get_elem? xs i ≡ some x → (i < length xs) × (get_or xs i x ≡ x)
 there [] i x e = absurd (some-ne-none x (sym e))
@@ -54,7 +55,7 @@ replaced n s id k v w h at seats raises fits found y is =
           (fits_more (raises_in s.views) (raises_in (set s.views id w)) s.views (omega arith) h.each);
     }
 
-pub looks : (n slots id : ℕ) (me : Me ℕ SeatView) → Allows (IsSum n) slots id me 0 (λ x. x) (λ x. Looked me x)
+pub looks : LookKeeps
 looks n slots id me s h homes at low =
     let x = slice_index s.words 0 in
     let is = found_is n s h in
@@ -67,8 +68,7 @@ looks n slots id me s h homes at low =
       (refl, omega arith),
     )
 
-pub raises : (n slots id : ℕ) (me : Me ℕ SeatView) → me.0.raises + 1 ≤ me.0.seats
-    → Allows (IsSum n) slots id me 0 (λ x. (x + 1) % 18446744073709551616) (λ x. Raised me x)
+pub raises : RaiseKeeps
 raises n slots id me room s h homes at low =
     let x = slice_index s.words 0 in
     let is = found_is n s h in
@@ -82,7 +82,7 @@ raises n slots id me room s h homes at low =
     let w : SeatView = record (me.0) { raises = me.0.raises + 1; found = x + 1; steps = me.0.steps + 1 } in
     (w, keeps, tt, replaced n s id 1 me.0 w h at refl refl room (omega arith) y (omega arith), (refl, omega arith))
 
-pub splits : (n id : ℕ) (v : SeatView) → v.raises + 1 ≤ v.seats → Splits (IsSum n) id v (less_one v) (stands_for 1)
+pub splits : DealKeeps
 splits n id v some_left s h at =
     let vs = set s.views id (less_one v) in
     let p : seats_in vs + v.seats ≡ seats_in s.views + (v.seats - 1) = sum_at (λ u. u.seats) s.views id v (less_one v) at in
@@ -102,7 +102,7 @@ splits n id v some_left s h at =
           (omega arith, omega arith);
     }
 
-pub joins : (n id other : ℕ) (v w : SeatView) → Joins (IsSum n) id v other w (joined v w) (stands_for 0)
+pub joins : TakeInKeeps
 joins n id other v w s h at apart at2 =
     let vs = set s.views id (joined v w) in
     let us = set vs other (stands_for 0) in
@@ -139,7 +139,7 @@ ends n id v ws xs all f =
     let below = fits.1 in
     (sym f.2 ∙ h.word ∙ ap (λ (x : ℕ). x ∷ []) same, omega arith)
 
-pub begins : (n : ℕ) → n < 2 ^ 32 → IsSum n record { words = 0 ∷ []; homes = []; views = stands_for n ∷ [] }
+pub begins : Begins
 begins n few = record {
   few = few;
   all = omega arith;
@@ -151,7 +151,7 @@ begins n few = record {
 pub first_is : {ws : List ℕ} {x y : ℕ} → ws ≡ y ∷ [] → get_elem? ws 0 ≡ some x → x ≡ y
 first_is {ws} {x} {y} one at = some-injective x y (sym at ∙ ap (λ (l : List ℕ). get_elem? l 0) one)
 
-pub never_wraps : (n : ℕ) (s : State ℕ SeatView) → IsSum n s → (slice_index s.words 0 ≤ n) × (slice_index s.words 0 < 2 ^ 32)
+pub never_wraps : NeverWraps
 never_wraps n s h =
     let is = found_is n s h in
     let capped = raises_le (raises_in s.views) s.views h.each in

@@ -1,10 +1,16 @@
 //! What the rule of the word says, and worked cases of it.
 
 ghost use Rattle.hy_abort.specs.Cases.{JoinedCountOnce, LooksDontRaise, LooksTellMore, LooksTellNoLess, NoneIsMissing, NoneRaisesTwice, RaiseIsNotUnseen, RaiseIsSeen, SeenNeedsRaised, TwoRaisesAreNoOther, TwoRaisesAreTwo, TwoSeatsRaised};
-ghost use Rattle.hy_abort.specs.Laws.{NeverWraps, SeenIsRaised, WordIsSum};
+ghost use Rattle.hy_abort.specs.Laws.{Begins, DealKeeps, LookKeeps, NeverWraps, RaiseKeeps, SeenIsRaised, TakeInKeeps, WordIsSum};
 
-/// The rule that each step on an abort word keeps. It does nothing: its clauses speak of every state that meets the rule.
+/// The rule of the abort word: it holds at the start, each kind of step keeps it, and what it says of the word. It
+/// does nothing: its clauses speak of every state that meets the rule.
 pub fn abort_laws()
+    ensures begins { Begins }
+    ensures look { LookKeeps }
+    ensures raise { RaiseKeeps }
+    ensures deal { DealKeeps }
+    ensures take_in { TakeInKeeps }
     ensures sum { WordIsSum }
     ensures never_wraps { NeverWraps }
     ensures seen { SeenIsRaised }
