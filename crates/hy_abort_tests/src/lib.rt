@@ -1,0 +1,5 @@
+//! Tests of the abort word.
+#![tactic(auto)]
+
+#[cfg(test)]
+mod words;
