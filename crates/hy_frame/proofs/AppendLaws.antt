@@ -1,5 +1,5 @@
 -- What an append does to a frame, as its user sees it.
-use Rattle.std.proofs.Common.{◌≡◌, ◌∙◌, ℕ, ◌+◌, ◌*◌, ◌^◌, ◌<◌, ◌≤◌, List, [], ◌∷◌, ◌++◌, length, get_or, refl, IsTrue, false, true≢false, sym, ap, ap₂, subst, arith}
+use Rattle.std.proofs.Common.{◌≡◌, ℕ, ◌+◌, ◌*◌, ◌^◌, ◌<◌, ◌≤◌, List, [], ◌∷◌, ◌++◌, length, get_or, refl, IsTrue, false, true≢false, sym, ap₂, subst, arith}
 use Rattle.hy_frame.specs.Cuts.{frame_rows, HoldsRows}
 use Rattle.hy_frame.specs.Frame.{FrameOf, IsFull, with_rows}
 use Rattle.hy_frame.specs.FrameText.{IsLeast}

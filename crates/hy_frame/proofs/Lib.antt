@@ -1,5 +1,7 @@
 pub mod AppendLaws
+pub mod ByteLists
 pub mod FrameLaws
 pub mod PieceLaws
 pub mod RowLaws
 pub mod WordLaws
+pub mod ParseLaws

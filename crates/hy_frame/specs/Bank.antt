@@ -1,5 +1,5 @@
 -- The frames that a bank has given out, by counts that stop at their type's end.
-use Rattle.std.specs.Prelude.{◌≡◌, ◌+◌, ◌-◌, ◌^◌, ◌<◌, ◌≤◌, ℕ, min}
+use Rattle.std.specs.Prelude.{◌≡◌, ◌+◌, ◌-◌, ◌^◌, ◌<◌, ℕ, min}
 
 pub record BankOf : Type 0 where
   pub unit : ℕ

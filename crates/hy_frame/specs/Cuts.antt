@@ -1,5 +1,5 @@
 -- The rows that stand in bytes, and what a row and a frame keep of them.
-use Rattle.std.specs.Prelude.{◌≡◌, ◌≢◌, ◌+◌, ◌*◌, ◌-◌, ◌^◌, ◌<◌, ◌≤◌, ℕ, zero, suc, List, [], ◌∷◌, ◌++◌, length, take, drop}
+use Rattle.std.specs.Prelude.{◌≡◌, ◌+◌, ◌*◌, ◌-◌, ◌^◌, ◌<◌, ◌≤◌, ℕ, zero, suc, List, [], ◌∷◌, length, take, drop}
 use Rattle.std.specs.List.{concat}
 use Rattle.hy_frame.specs.Row.{Fields, AllFields, field_ends}
 use Rattle.hy_frame.specs.FrameText.{AllRows, tuples_of, taken, frame_bytes, IsAlone}

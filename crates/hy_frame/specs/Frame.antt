@@ -1,5 +1,5 @@
 -- A frame as its user sees it.
-use Rattle.std.specs.Prelude.{◌≡◌, ◌≢◌, ◌+◌, ◌-◌, ◌<◌, ◌⊎◌, ℕ, List, []}
+use Rattle.std.specs.Prelude.{◌≢◌, ◌+◌, ◌-◌, ◌<◌, ◌⊎◌, ℕ, List, []}
 use Rattle.hy_frame.specs.Row.{Fields}
 use Rattle.hy_frame.specs.FrameText.{taken}
 
@@ -17,6 +17,10 @@ free_in f = f.size - 4 - taken f.rows
 abbrev pub IsFull : FrameOf → ℕ → Type 0
 IsFull f row = (free_in f < row + 4) ⊎ ((f.unit < f.size) × (f.rows ≢ []))
 
+-- the frame with this size and these rows
+abbrev pub sized : FrameOf → ℕ → List Fields → FrameOf
+sized f size rows = record { arity = f.arity; unit = f.unit; size = size; rows = rows }
+
 -- the frame with these rows
 abbrev pub with_rows : FrameOf → List Fields → FrameOf
-with_rows f rows = record { arity = f.arity; unit = f.unit; size = f.size; rows = rows }
+with_rows f rows = sized f f.size rows

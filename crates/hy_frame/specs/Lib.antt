@@ -3,6 +3,7 @@ pub mod Cuts
 pub mod Field
 pub mod Frame
 pub mod FrameText
+pub mod Parse
 pub mod Pieces
 pub mod Row
 pub mod Word

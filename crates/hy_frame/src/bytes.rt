@@ -65,3 +65,11 @@ pub(crate) fn part(bytes: &[u8], start: usize, end: usize) -> &[u8]
 {
     &bytes[start..end]
 }
+
+/// The bytes from one place on.
+pub(crate) fn after(bytes: &[u8], at: usize) -> &[u8]
+    requires { at ≤ length bytes.now }
+    ensures { result.now ≡ drop at bytes.now }
+{
+    &bytes[at..]
+}

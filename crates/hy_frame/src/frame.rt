@@ -1,13 +1,14 @@
-ghost use Rattle.std.specs.Prelude.{◌≡◌, ◌≢◌, ◌↔◌, ◌⊎◌, ◌+◌, ◌*◌, ◌-◌, ◌^◌, ◌<◌, ◌≤◌, ◌++◌, [], ◌∷◌, length, drop, get_or, IfOk, IsTrue};
+ghost use Rattle.std.specs.Prelude.{◌≡◌, ◌≢◌, ◌↔◌, ◌⊎◌, ◌+◌, ◌*◌, ◌-◌, ◌^◌, ◌<◌, ◌≤◌, ◌++◌, [], ◌∷◌, length, drop, get_or, IfOk, IsErrOf, OnOk, OnErr, IsTrue};
 ghost use Rattle.hy_frame.specs.Row.{IsRow, row_size, tuple_bytes};
 ghost use Rattle.hy_frame.specs.Field.{IsField};
-ghost use Rattle.hy_frame.specs.FrameText.{FrameText, IsLeast, frame_bytes};
-ghost use Rattle.hy_frame.specs.Frame.{free_in, IsFull, with_rows};
+ghost use Rattle.hy_frame.specs.FrameText.{FrameText, IsFrameText, IsLeast, frame_bytes};
+ghost use Rattle.hy_frame.specs.Frame.{free_in, IsFull, sized, with_rows};
 ghost use Rattle.hy_frame.specs.Word.{word_in};
 ghost use Rattle.hy_frame.specs.Pieces.{with_row};
 
 use crate::bytes::{clear, number_at, part, put, put_number};
 use crate::fault::NoMemory;
+use crate::parse::{LoadFault, parse_frame};
 use crate::row::{RowBuf, RowRef};
 use std::alloc::Global;
 use std::marker::Model;
@@ -162,6 +163,29 @@ impl Frame {
             → FrameText self.now.rows self.now.arity self.now.unit result.now }
     {
         &self.bytes
+    }
+
+    /// Takes the rows of a frame's bytes in place of its own, and their size.
+    pub fn load(&mut self, bytes: &[u8]) -> Result<(), LoadFault>
+        ensures ok { OnOk result ((self.new ≡ sized self.old (length bytes.now) self.new.rows) × FrameText self.new.rows self.new.arity self.new.unit bytes.now) }
+        ensures bad { IsErrOf result LoadFault.NotFrame ↔ (¬ IsFrameText self.old.arity self.old.unit bytes.now) }
+        ensures err { OnErr result (self.new ≡ self.old) }
+    {
+        let Ok(count) = parse_frame(self.arity, self.unit, bytes) else {
+            return Err(LoadFault::NotFrame);
+        };
+        let more = bytes.len().saturating_sub(self.bytes.len());
+        if self.bytes.reserve(more).is_err() {
+            return Err(LoadFault::NoMemory);
+        }
+        let used = start_of(bytes, count);
+        self.bytes.clear();
+        if self.bytes.extend_from_slice(bytes).is_err() {
+            return Err(LoadFault::NoMemory);
+        }
+        self.count = count;
+        self.used = used;
+        Ok(())
     }
 
     /// Takes all rows out.

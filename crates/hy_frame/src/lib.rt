@@ -6,11 +6,15 @@ mod bank;
 mod bytes;
 mod fault;
 mod frame;
+mod laws;
+mod parse;
 mod row;
 mod writer;
 
 pub use bank::{Bank, Counts, Sent};
 pub use fault::NoMemory;
 pub use frame::{Append, Frame};
-pub use row::{RowBuf, RowRef};
+pub use laws::frame_laws;
+pub use parse::{LoadFault, NotFrame, is_field, parse_frame};
+pub use row::{MAX_FIELDS, RowBuf, RowRef};
 pub use writer::{FrameWriter, WriterState};

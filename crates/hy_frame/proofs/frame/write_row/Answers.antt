@@ -1,4 +1,4 @@
-use Rattle.std.proofs.Common.{◌≡◌, ◌∙◌, ap, length, arith}
+use Rattle.std.proofs.Common.{ap, length, arith}
 use Rattle.hy_frame.proofs.RowLaws.{length-field_ends}
 use Rattle.hy_frame.proofs.frame.write_row.Goals as goal
 

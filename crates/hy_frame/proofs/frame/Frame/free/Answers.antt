@@ -1,4 +1,4 @@
-use Rattle.std.proofs.Common.{◌≡◌, ◌∙◌, ap, sym, length, rules, arith}
+use Rattle.std.proofs.Common.{ap, arith}
 use Rattle.hy_frame.specs.Frame.{free_in}
 use Rattle.hy_frame.proofs.FrameLaws.{used_within, free_is}
 use Rattle.hy_frame.proofs.frame.Frame.free.Goals as goal

@@ -1,4 +1,4 @@
-use Rattle.std.proofs.Common.{◌≡◌, ◌∙◌, ◌*◌, ◌<◌, ap, subst, [], length, get_or, arith}
+use Rattle.std.proofs.Common.{ap, subst, [], length, get_or, arith}
 use Rattle.hy_frame.specs.Row.{IsRow}
 use Rattle.hy_frame.proofs.AppendLaws.{row_in}
 use Rattle.hy_frame.proofs.FrameLaws.{tuple_holds}

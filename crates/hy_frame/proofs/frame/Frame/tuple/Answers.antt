@@ -1,4 +1,4 @@
-use Rattle.std.proofs.Common.{◌≡◌, ◌∙◌, ◌+◌, ◌*◌, ◌-◌, ◌<◌, ◌≤◌, [], ap, ap₂, sym, length, get_or, take, drop, rules, arith, List, ℕ}
+use Rattle.std.proofs.Common.{◌≡◌, ◌∙◌, ◌*◌, ◌-◌, ◌<◌, [], ap, ap₂, length, get_or, take, drop, arith, List, ℕ}
 use Rattle.hy_frame.specs.Frame.{FrameOf}
 use Rattle.hy_frame.specs.Row.{tuple_bytes}
 use Rattle.hy_frame.specs.Word.{word_in}

@@ -1,5 +1,4 @@
-use Rattle.std.proofs.Common.{◌≡◌, ◌∙◌, ◌<◌, ◌≤◌, ◌+◌, ◌++◌, ◌∷◌, [], List, ℕ, ap, sym, length, rules, arith}
-use Rattle.hy_frame.specs.Cuts.{cut_row, HoldsRow}
+use Rattle.std.proofs.Common.{◌≡◌, ◌∙◌, ◌<◌, ◌+◌, ◌++◌, ◌∷◌, [], List, ℕ, ap, length, arith}
 use Rattle.hy_frame.specs.Word.{word_bytes}
 use Rattle.hy_frame.proofs.RowLaws.{push_holds, length-field, fields_short}
 use Rattle.hy_frame.proofs.row.RowBuf.push_field.Goals as goal

@@ -1,4 +1,4 @@
-use Rattle.std.proofs.Common.{◌≡◌, ◌∙◌, ap, arith}
+use Rattle.std.proofs.Common.{ap, arith}
 use Rattle.hy_frame.specs.Row.{row_size}
 use Rattle.hy_frame.proofs.RowLaws.{size_is, ends_long, fields_short}
 use Rattle.hy_frame.proofs.row.RowBuf.size.Goals as goal

@@ -1,7 +1,5 @@
-use Rattle.std.proofs.Common.{◌≡◌, ◌∙◌, ◌<◌, [], sym, ap, subst, length, get_or, rules, arith}
+use Rattle.std.proofs.Common.{◌∙◌, ◌<◌, [], sym, ap, subst, length, get_or, arith}
 use Rattle.hy_frame.specs.Field.{IsField}
-use Rattle.hy_frame.specs.Cuts.{cut_row}
-use Rattle.hy_frame.proofs.PieceLaws.{start_in}
 use Rattle.hy_frame.proofs.RowLaws.{ends_long, start_is, end_is, field_is, field_bounds, field_at}
 use Rattle.hy_frame.proofs.row.RowRef.field.Goals as goal
 

@@ -1,0 +1,10 @@
+//! Laws of frames' bytes.
+ghost use Rattle.std.specs.Prelude.{◌≡◌, ℕ, List};
+ghost use Rattle.hy_frame.specs.Row.{Fields};
+ghost use Rattle.hy_frame.specs.FrameText.{FrameText};
+
+/// Rows have at most one frame per unit, and a frame has one list of rows.
+pub fn frame_laws()
+    ensures one { (rows : List Fields) (arity unit : ℕ) (a b : List ℕ) → FrameText rows arity unit a → FrameText rows arity unit b → a ≡ b }
+    ensures rows { (a b : List Fields) (arity unit : ℕ) (bytes : List ℕ) → FrameText a arity unit bytes → FrameText b arity unit bytes → a ≡ b }
+{}
