@@ -1,5 +1,6 @@
 pub mod AppendLaws
 pub mod ByteLists
+pub mod FrameCases
 pub mod FrameLaws
 pub mod PieceLaws
 pub mod RowLaws

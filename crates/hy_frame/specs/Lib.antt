@@ -1,4 +1,5 @@
 pub mod Bank
+pub mod Cases
 pub mod Cuts
 pub mod Field
 pub mod Frame

@@ -14,7 +14,7 @@ mod writer;
 pub use bank::{Bank, Counts, Sent};
 pub use fault::NoMemory;
 pub use frame::{Append, Frame};
-pub use laws::frame_laws;
+pub use laws::{frame_cases, frame_laws};
 pub use parse::{LoadFault, NotFrame, is_field, parse_frame};
 pub use row::{MAX_FIELDS, RowBuf, RowRef};
 pub use writer::{FrameWriter, WriterState};
