@@ -93,7 +93,7 @@ AllFields-push [] field all is = (is, tt)
 AllFields-push (first ∷ row) field all is = (all.0, AllFields-push row field all.1 is)
 
 row_again : (row : Fields) → length (concat row) < 2 ^ 32 → cut_row (length row) 0 (field_ends 0 row) (concat row) ≡ row
-row_again row low = rw (append-nil, append-nil) at (cut_again 0 row [] [] (omega arith))
+row_again row low = simp append-nil at (cut_again 0 row [] [] (omega arith))
 
 -- the row in bytes that are a row's
 pub row_is : (row : Fields) (n : ℕ) (ends fields : List ℕ) → length (concat row) < 2 ^ 32 → length row ≡ n

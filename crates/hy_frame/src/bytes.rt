@@ -1,6 +1,5 @@
 //! Numbers and pieces in bytes.
-ghost use Rattle.std.specs.Prelude.{◌≡◌, ◌+◌, ◌-◌, ◌≤◌, ◌^◌, ◌<◌, length, take, drop, replicate, OnOk, OnErr};
-ghost use Rattle.std.specs.Prelude.{◌++◌};
+ghost use Rattle.std.specs.Prelude.{◌≡◌, ◌++◌, ◌+◌, ◌-◌, ◌≤◌, ◌^◌, ◌<◌, length, take, drop, replicate, OnOk, OnErr};
 ghost use Rattle.hy_frame.specs.Word.{word_bytes, word_in};
 ghost use Rattle.hy_frame.specs.Pieces.{put_at};
 

@@ -1,5 +1,5 @@
 //! Whether bytes are a frame.
-ghost use Rattle.std.specs.Prelude.{◌≡◌, ◌↔◌, ◌+◌, ◌*◌, ◌-◌, ◌^◌, ◌<◌, ◌≤◌, ◌∷◌, List, length, replicate, IfOk, IsErr, IsTrue};
+ghost use Rattle.std.specs.Prelude.{◌≡◌, ◌↔◌, ◌+◌, ◌*◌, ◌-◌, ◌^◌, ◌<◌, ◌∷◌, List, length, replicate, IfOk, IsErr, IsTrue};
 ghost use Rattle.hy_frame.specs.Field.{IsField, IsInt, IsText};
 ghost use Rattle.hy_frame.specs.Row.{Fields};
 ghost use Rattle.hy_frame.specs.FrameText.{FrameText, IsFrameText, IsLeast};

@@ -57,6 +57,25 @@ impl RowBuf {
         Ok(())
     }
 
+    /// Takes the fields of another row in place of its own.
+    pub fn copy_from(&mut self, row: &RowRef<'_>) -> Result<(), NoMemory>
+        requires { length row.now ≤ MAX_FIELDS }
+        ensures ok { OnOk result (self.new ≡ row.now) }
+        ensures err { OnErr result (self.new ≡ self.old) }
+    {
+        let more_ends = row.ends.len().saturating_sub(self.ends.len());
+        self.ends.reserve(more_ends)?;
+        let more_fields = row.fields.len().saturating_sub(self.fields.len());
+        self.fields.reserve(more_fields)?;
+        self.ends.clear();
+        self.ends.extend_from_slice(row.ends)?;
+        self.fields.clear();
+        self.fields.extend_from_slice(row.fields)?;
+        self.count = row.count;
+        Ok(())
+    }
+
+    /// Takes all fields out.
     pub fn clear(&mut self)
         ensures { self.new ≡ [] }
     {

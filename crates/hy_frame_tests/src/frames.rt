@@ -1,5 +1,5 @@
 use crate::rows::{append, one, text, two};
-use hy_frame::{Append, Bank, LoadFault, NotFrame, is_field, parse_frame};
+use hy_frame::{Append, Bank, LoadFault, NotFrame, RowBuf, is_field, parse_frame};
 use std::test::Fail;
 
 #[test]
@@ -56,6 +56,11 @@ fn an_int_and_a_text(rt: HostRuntime) -> Result<(), Fail> {
     assert_eq!(rt; seen.len(), 2);
     assert_eq!(rt; seen.size(), 21);
     assert_eq!(rt; seen.field(0), &whole[8..17]);
+    let mut copy = RowBuf::new(alloc);
+    copy.copy_from(&seen)?;
+    assert_eq!(rt; copy.as_row().field(1), b"\x04Ann".as_slice());
+    copy.clear();
+    assert_eq!(rt; copy.len(), 0);
     bank.give(frame);
     Ok(())
 }

@@ -1,8 +1,7 @@
 //! Rows that tests are made of.
-ghost use Rattle.std.specs.Prelude.{◌≡◌, ◌∷◌, ◌++◌, [], length, IfOk, OnOk};
+ghost use Rattle.std.specs.Prelude.{◌≡◌, length, IfOk};
 ghost use Rattle.hy_frame.specs.Row.{row_size};
 ghost use Rattle.hy_frame.specs.FrameText.{IsLeast};
-ghost use Rattle.hy_frame.specs.Frame.{with_rows};
 
 use hy_frame::{Append, Frame, RowBuf, is_field};
 use std::alloc::Global;

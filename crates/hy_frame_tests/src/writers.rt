@@ -1,5 +1,3 @@
-ghost use Rattle.std.specs.Prelude.{◌≡◌};
-
 use hy_frame::{Bank, Frame, FrameWriter, NoMemory, WriterState};
 use std::test::Fail;
 
