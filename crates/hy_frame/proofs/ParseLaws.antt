@@ -260,6 +260,11 @@ one_multiple s t u m a b a_is b_is am au bm bu =
           ]
     ]
 
+-- a row that has room in the unit takes one
+pub least_unit : (unit row size : ℕ) → IsLeast unit row size → row + 8 ≤ unit → size ≡ unit
+least_unit unit row size least fits =
+    one_multiple least.times 1 unit (row + 8) size unit least.multiple (omega arith) least.fits least.least fits (omega (arith, least.least))
+
 not_both : (unit : ℕ) (rows : List Fields) (size : ℕ) → taken rows + 4 ≤ unit → unit < size → IsAlone unit rows size → ⊥
 not_both unit rows size fits larger alone =
     let is : taken rows ≡ row_size alone.0 + 4 + 0 = ap taken alone.1 in

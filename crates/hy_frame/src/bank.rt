@@ -79,9 +79,11 @@ impl Bank {
     }
 
     /// A frame without rows, of the least size that holds a row of this size.
+    #[tactic(auto, using(crate::proofs::ParseLaws::least_unit))]
     pub fn take(&mut self, alloc: Global, arity: usize, row_size: usize) -> Result<Frame, NoMemory>
         requires { self.old.out < self.old.limit }
         ensures frame { IfOk result (λ f. (f.arity ≡ arity) × (f.unit ≡ self.old.unit) × (f.rows ≡ []) × IsLeast f.unit row_size f.size) }
+        ensures unit { IfOk result (λ f. row_size + 8 ≤ f.unit → f.size ≡ f.unit) }
         ensures ok { OnOk result (self.new ≡ record self.old { out = self.old.out + 1; taken = one_more self.old.taken }) }
         ensures err { OnErr result (self.new ≡ self.old) }
     {

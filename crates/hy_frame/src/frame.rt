@@ -1,7 +1,7 @@
 ghost use Rattle.std.specs.Prelude.{◌≡◌, ◌≢◌, ◌↔◌, ◌⊎◌, ◌+◌, ◌*◌, ◌-◌, ◌^◌, ◌<◌, ◌≤◌, ◌++◌, [], ◌∷◌, length, drop, get_or, IfOk, IsErrOf, OnOk, OnErr, IsTrue};
 ghost use Rattle.hy_frame.specs.Row.{IsRow, row_size, tuple_bytes};
 ghost use Rattle.hy_frame.specs.Field.{IsField};
-ghost use Rattle.hy_frame.specs.FrameText.{FrameText, IsFrameText, IsLeast, frame_bytes};
+ghost use Rattle.hy_frame.specs.FrameText.{AllRows, FrameText, IsFrameText, IsLeast, frame_bytes};
 ghost use Rattle.hy_frame.specs.Frame.{free_in, IsFull, sized, with_rows};
 ghost use Rattle.hy_frame.specs.Word.{word_in};
 ghost use Rattle.hy_frame.specs.Pieces.{with_row};
@@ -115,7 +115,8 @@ impl Frame {
 
     /// The number of rows.
     pub fn rows(&self) -> usize
-        ensures { result ≡ length self.now.rows }
+        ensures rows { result ≡ length self.now.rows }
+        ensures fields { AllRows self.now.arity self.now.rows }
     {
         self.count
     }
