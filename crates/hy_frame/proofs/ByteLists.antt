@@ -1,0 +1,5 @@
+-- Lists of bytes.
+use Rattle.std.proofs.Common.{ℕ, ◌<◌, List, get_or}
+
+abbrev pub AreBytes : List ℕ → Type 0
+AreBytes bytes = (i : ℕ) → get_or bytes i 0 < 256

@@ -1,0 +1,10 @@
+pub mod Bank
+pub mod Cases
+pub mod Cuts
+pub mod Field
+pub mod Frame
+pub mod FrameText
+pub mod Parse
+pub mod Pieces
+pub mod Row
+pub mod Word
