@@ -4,7 +4,8 @@ use Rattle.std.specs.Prelude.{true, false}
 use Rattle.std.proofs.lemmas.List.{length-take-le, take_all}
 use Rattle.std.proofs.lemmas.Grind.{common_steps}
 use Rattle.std.proofs.Math.Seq.{take-add, drop-drop}
-use Rattle.al_io.specs.Outside.{Bytes, Told, Moves, IsWholeOf}
+use Rattle.al_value.specs.Outside.{Told}
+use Rattle.al_io.specs.Outside.{Bytes, Moves, IsWholeOf}
 
 pub told_at : {X : Type 0} (o : Option X) (x : X) (P : X → Type 0) → o ≡ Some x → Told o P → P x
 told_at {X} o x P e h = let Q : Option X → Type 0 = λ p. Told p P in subst Q e h

@@ -2,7 +2,8 @@
 use Rattle.std.proofs.Common.{◌≡◌, ℕ, ◌+◌, ◌<◌, ◌≤◌, List, [], ◌∷◌, ◌++◌, take, drop, length, get_or, Option, None, Some, ap, sym, refl, ◌∙◌, Bor, append_assoc, append-nil, arith, length-append}
 use Rattle.std.proofs.lemmas.List.{take_more, take-append-drop, take-append-le}
 use Rattle.std.proofs.Math.Seq.{take-append-add}
-use Rattle.al_io.specs.Outside.{Bytes, Told, GainsPrefix, joined}
+use Rattle.al_value.specs.Outside.{Told}
+use Rattle.al_io.specs.Outside.{Bytes, GainsPrefix, joined}
 use Rattle.al_io.proofs.Gains.{told_at}
 
 joined-append : (xs ys : List (Bor Bytes)) → joined (xs ++ ys) ≡ joined xs ++ joined ys

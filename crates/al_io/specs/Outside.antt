@@ -1,6 +1,7 @@
--- What the outside tells, and how its faults are counted.
-use Rattle.std.specs.Prelude.{◌≡◌, ℕ, ◌+◌, ◌-◌, ◌^◌, ◌≤◌, min, Bool, true, false, List, [], ◌∷◌, ◌++◌, take, drop, length, Option, Some, None, Result, Ok, Err, IfSome}
+-- What files and streams tell of their content.
+use Rattle.std.specs.Prelude.{◌≡◌, ℕ, ◌≤◌, Bool, true, false, List, [], ◌∷◌, ◌++◌, take, drop, length, Option, Some, None, Result, Ok, Err}
 use Rattle.std.specs.Borrow.{Bor}
+use Rattle.al_value.specs.Outside.{Told}
 use Rattle.al_io.specs.declared.source.ReadFault.{ReadFault}
 use Rattle.al_io.specs.declared.source.ReadFault.TheVariants as fault
 
@@ -11,27 +12,10 @@ Bytes = List ℕ
 abbrev pub Files : Type 0
 Files = Bytes → Option Bytes
 
--- a count rose, or stands at its end
-abbrev pub Rose : ℕ → ℕ → Type 0
-Rose before now = min (before + 1) (2 ^ 64 - 1) ≤ now
-
--- a call that failed raised the count, and another left it
-abbrev pub Counted : Bool → ℕ → ℕ → Type 0
-Counted true before now = Rose before now
-Counted false before now = now ≡ before
-
 abbrev pub is_failed : {T : Type 0} → Result T ReadFault → Bool
 is_failed (Ok x) = false
 is_failed (Err fault.Failed) = true
 is_failed (Err fault.NoMemory) = false
-
-abbrev pub failed : {T E : Type 0} → Result T E → Bool
-failed (Ok x) = false
-failed (Err e) = true
-
--- what is told has this property; nothing is said where nothing is told
-abbrev pub Told : {X : Type 0} → Option X → (X → Type 0) → Type 0
-Told told P = IfSome told P
 
 -- `open`: false exactly where there is no such file, and else its content is what is left
 abbrev pub Opens : Option Files → Bytes → Result Bool ReadFault → Option Bytes → Type 0

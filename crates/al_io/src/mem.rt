@@ -1,6 +1,7 @@
 ghost use Rattle.std.specs.Prelude.{◌≡◌, ◌++◌, ◌∷◌, [], OnOk, OnErr, IfOk, None, option_map, vec_capacity, ◌≤◌, ◌<◌, ◌-◌, ◌↔◌, length, min, take, Some, Ok, IsTrue, true, false};
 ghost use Rattle.std.specs.List.{Contains};
-ghost use Rattle.al_io.specs.Outside.{Counted, Moves, Opens, Told, failed, is_failed};
+ghost use Rattle.al_value.specs.Outside.{Counted, Told, failed};
+ghost use Rattle.al_io.specs.Outside.{Moves, Opens, is_failed};
 ghost use Rattle.al_io.specs.Mem.{Fails, calls_in, content_in, file_of, files_in, faults_in, failing_in, is_open_in, next_call};
 
 use crate::sink::Sink;

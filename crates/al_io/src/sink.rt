@@ -1,5 +1,6 @@
 ghost use Rattle.std.specs.Prelude.{◌≡◌, ℕ, ◌<◌, ◌≤◌, ◌++◌, take, Option, Some, length, IfOk, OnErr, OnOk};
-ghost use Rattle.al_io.specs.Outside.{Bytes, Counted, failed, Told, GainsPrefix, joined};
+ghost use Rattle.al_value.specs.Outside.{Counted, failed, Told};
+ghost use Rattle.al_io.specs.Outside.{Bytes, GainsPrefix, joined};
 
 use al_value::Failed;
 

@@ -1,5 +1,6 @@
 ghost use Rattle.std.specs.Prelude.{◌≡◌, ℕ, ◌<◌, ◌≤◌, ◌↔◌, Bool, true, false, Option, Some, Ok, length, IsTrue, IfOk, OnErr, OnOk};
-ghost use Rattle.al_io.specs.Outside.{Files, Bytes, Counted, is_failed, failed, Opens, Moves, Told, IsWholeOf};
+ghost use Rattle.al_value.specs.Outside.{Counted, failed, Told};
+ghost use Rattle.al_io.specs.Outside.{Files, Bytes, is_failed, Opens, Moves, IsWholeOf};
 ghost use Rattle.al_io.specs.FileRead.{IsLimited, TellsFile};
 
 use al_value::{Failed, List, NoMemory};

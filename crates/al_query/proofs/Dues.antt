@@ -2,7 +2,8 @@
 use Rattle.std.proofs.Common.{◌≡◌, ◌≢◌, ℕ, ◌≤◌, ◌⊎◌, List, [], ◌∷◌, ◌++◌, length, Bool, Option, None, Some, true, false, Result, Ok, Err, refl, ap, sym, subst, ◌∙◌, inl, inr, arith}
 use Rattle.std.specs.Prelude.{OnOk, OnErr, ◌↔◌}
 use Rattle.std.proofs.lemmas.List.{take_all}
-use Rattle.al_io.specs.Outside.{Bytes, Files, Told, GainsPrefix}
+use Rattle.al_value.specs.Outside.{Told}
+use Rattle.al_io.specs.Outside.{Bytes, Files, GainsPrefix}
 use Rattle.al_words.specs.declared.command.Command.{Command}
 use Rattle.al_words.specs.declared.command.Command.TheVariants as C
 use Rattle.al_words.specs.Words.{IsCommand}

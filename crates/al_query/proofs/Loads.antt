@@ -6,7 +6,8 @@ use Rattle.std.specs.Prelude.{nat_eq, nat_le, if◌then◌else◌, min}
 use Rattle.std.specs.List.{All}
 use Rattle.std.specs.Cmp.Lexicographic.{pointwise}
 use Rattle.al_value.specs.declared.value.Value.{Value}
-use Rattle.al_io.specs.Outside.{Bytes, Files, Told}
+use Rattle.al_value.specs.Outside.{Told}
+use Rattle.al_io.specs.Outside.{Bytes, Files}
 use Rattle.al_csv.specs.Records.{records}
 use Rattle.al_csv.specs.declared.decl.Decl.{Decl}
 use Rattle.al_csv.specs.declared.refused.BadRecord.{BadRecord}

@@ -2,7 +2,8 @@
 use Rattle.std.proofs.Common.{◌≡◌, ℕ, ◌≤◌, ◌<◌, List, [], ◌∷◌, ◌++◌, length, map, Bool, Option, None, Some, Result, Ok, Err, true, false, refl, ap, sym, subst, ◌∙◌, inl, inr, arith}
 use Rattle.std.specs.Prelude.{nat_le, not, if◌then◌else◌, ◌⊎◌, IfOk, IfErr}
 use Rattle.al_value.specs.declared.value.Value.{Value}
-use Rattle.al_io.specs.Outside.{Bytes, Files, GainsPrefix, Told}
+use Rattle.al_value.specs.Outside.{Told}
+use Rattle.al_io.specs.Outside.{Bytes, Files, GainsPrefix}
 use Rattle.al_io.specs.FileRead.{TellsFile}
 use Rattle.al_io.specs.declared.source.FileRead.TheVariants as found
 use Rattle.al_csv.specs.Generator.{generated}

@@ -1,7 +1,8 @@
 -- What the words and the files ask for: which status is due, and what is to be written.
 use Rattle.std.specs.Prelude.{◌≡◌, ◌⊎◌, ℕ, ◌+◌, ◌-◌, Bool, true, false, nat_le, min, List, [], ◌∷◌, ◌++◌, length, Option, Some, None, Result, Ok, Err, if◌then◌else◌}
 use Rattle.al_value.specs.declared.value.Value.{Value}
-use Rattle.al_io.specs.Outside.{Bytes, Files, GainsPrefix, Told}
+use Rattle.al_value.specs.Outside.{Told}
+use Rattle.al_io.specs.Outside.{Bytes, Files, GainsPrefix}
 use Rattle.al_csv.specs.Records.{records}
 use Rattle.al_csv.specs.Generator.{generated}
 use Rattle.al_csv.specs.declared.decl.Decl.{Decl}

@@ -1,7 +1,7 @@
 //! Answers of plans over the files of their datasets.
 
 ghost use Rattle.std.specs.Prelude.{◌≡◌, [], false, IfOk, IfErr, map};
-ghost use Rattle.al_io.specs.Outside.{Counted, Told};
+ghost use Rattle.al_value.specs.Outside.{Counted, Told};
 ghost use Rattle.al_csv.specs.OutText as spec;
 ghost use Rattle.al_plan.specs.Accept.{IsAccepted};
 ghost use Rattle.al_plan.specs.Allows as meaning;

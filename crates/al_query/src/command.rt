@@ -1,7 +1,8 @@
 //! The commands of the program.
 
 ghost use Rattle.std.specs.Prelude.{◌≡◌, ◌≢◌, ◌⊎◌, ℕ, ◌<◌, ◌++◌, ◌-◌, ◌^◌, Some, map, not, string_bytes, IfErr, true, false};
-ghost use Rattle.al_io.specs.Outside.{Bytes, Counted, GainsPrefix, Rose, Told};
+ghost use Rattle.al_value.specs.Outside.{Counted, Rose, Told};
+ghost use Rattle.al_io.specs.Outside.{Bytes, GainsPrefix};
 ghost use Rattle.al_words.specs.declared.command.Command.{Command as Asked};
 ghost use Rattle.al_words.specs.declared.command.Command.TheVariants as asked;
 ghost use Rattle.al_words.specs.Words.{IsCommand};

@@ -1,7 +1,7 @@
 //! The datasets of a plan file.
 
 ghost use Rattle.std.specs.Prelude.{◌≡◌, ◌≤◌, ◌+◌, false, length, All, IfOk, IfErr};
-ghost use Rattle.al_io.specs.Outside.{Counted, Told};
+ghost use Rattle.al_value.specs.Outside.{Counted, Told};
 ghost use Rattle.al_query.specs.Served as served;
 ghost use Rattle.al_query.specs.Served.{of_file};
 ghost use Rattle.al_query.specs.Tells.{AreSetsOf, IsStop, Refuses, TellsBytes, TellsData, TellsSet, is_source_fault};

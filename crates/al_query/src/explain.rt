@@ -1,7 +1,7 @@
 //! How a plan is rewritten, computed and run.
 
 ghost use Rattle.std.specs.Prelude.{◌≡◌, ◌<◌, ◌≤◌, IfErr, IfOk};
-ghost use Rattle.al_io.specs.Outside.{Counted, Told};
+ghost use Rattle.al_value.specs.Outside.{Counted, Told};
 ghost use Rattle.al_plan.specs.Refines.{Fit};
 ghost use Rattle.al_query.specs.Tells.{Explains, IsPlanStop, TellsExplained, is_source_fault};
 

@@ -1,7 +1,7 @@
 //! Plan files that are read and accepted.
 
 ghost use Rattle.std.specs.Prelude.{◌≡◌, Some, false, MatchResult, IfOk, IfErr};
-ghost use Rattle.al_io.specs.Outside.{Counted, Told};
+ghost use Rattle.al_value.specs.Outside.{Counted, Told};
 ghost use Rattle.al_plan.specs.Refines.{Fit};
 ghost use Rattle.al_read.specs.Reads as reads;
 ghost use Rattle.al_plan.specs.Accept.{HasPlaces, IsAccepted};

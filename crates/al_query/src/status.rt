@@ -1,5 +1,6 @@
 ghost use Rattle.std.specs.Prelude.{◌≡◌, ◌++◌, Some, OnOk, OnErr};
-ghost use Rattle.al_io.specs.Outside.{Counted, failed, Told, GainsPrefix};
+ghost use Rattle.al_value.specs.Outside.{Counted, failed, Told};
+ghost use Rattle.al_io.specs.Outside.{GainsPrefix};
 ghost use Rattle.al_query.specs.Lines.{check_line, code_of, data_kind_name, data_line, place_line, plan_line, refused_kind_name, status_line};
 
 use al_csv::{BadRecord, DataKind};

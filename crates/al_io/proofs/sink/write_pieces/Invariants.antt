@@ -1,5 +1,6 @@
 use Rattle.std.proofs.Common.{◌≡◌, ◌++◌, take, Some}
-use Rattle.al_io.specs.Outside.{Told, joined}
+use Rattle.al_value.specs.Outside.{Told}
+use Rattle.al_io.specs.Outside.{joined}
 use Rattle.al_io.proofs.sink.write_pieces.Given as goal
 
 abbrev pub invariant-loop-piece : goal.invariant-loop-piece

@@ -1,5 +1,5 @@
 use Rattle.std.proofs.Common.{sym, subst, Ok, Err}
-use Rattle.al_io.specs.Outside.{Told}
+use Rattle.al_value.specs.Outside.{Told}
 use Rattle.al_query.specs.Tells.{TellsData, TellsEvaluated}
 use Rattle.al_query.proofs.Steps.{told_data_stopped, told_evaluated, told_plan_stopped}
 use Rattle.al_query.proofs.answer.answer.Goals as goal

@@ -1,5 +1,5 @@
 use Rattle.std.proofs.Common.{◌≡◌, ◌≤◌, take, drop}
-use Rattle.al_io.specs.Outside.{Told}
+use Rattle.al_value.specs.Outside.{Told}
 use Rattle.al_query.specs.Tells.{AreSetsOf}
 use Rattle.al_query.proofs.Loads.{LoadedSoFar}
 use Rattle.al_query.proofs.data.load_all.Given as goal
