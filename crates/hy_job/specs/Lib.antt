@@ -6,7 +6,6 @@ pub mod Stages
 pub mod Finding
 pub mod Runs
 pub mod Exchange
-pub mod Rest
 pub mod Settled
 pub mod Boxes
 pub mod Drivers

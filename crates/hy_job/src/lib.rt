@@ -9,8 +9,8 @@ mod staging;
 
 pub use job::{Activity, Block, Edge, GroupArg, Job, JoinArg, Kind, Stage, Wire};
 pub use laws::{
-    Resting, driver_laws, job_cases, mailbox_laws, output_laws, record_cases, record_laws,
-    rest_laws, run_cases, wire_laws,
+    driver_laws, job_cases, mailbox_laws, output_laws, record_cases, record_laws, run_cases,
+    wire_laws,
 };
 pub use nested::{AggRex, GenRex, NestedPlan};
 pub use staging::stages;

@@ -1,5 +1,5 @@
-use Rattle.hy_job.proofs.Rest.{in_order_continues, free_continues, held_continues, continues_then, idle_continues, in_order_alive, free_alive, held_alive, in_order_finished, free_finished, held_finished, none_open}
-use Rattle.hy_job.proofs.laws.rest_laws.Goals as goal
+use Rattle.hy_rest.proofs.Rest.{in_order_continues, free_continues, held_continues, continues_then, idle_continues, in_order_alive, free_alive, held_alive, in_order_finished, free_finished, held_finished, none_open}
+use Rattle.hy_rest.proofs.laws.rest_laws.Goals as goal
 
 pub returns-clause-in_order : goal.returns-clause-in_order
 returns-clause-in_order g c old new = in_order_continues _ _ _ _

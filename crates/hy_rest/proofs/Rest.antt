@@ -2,7 +2,7 @@
 use Rattle.std.proofs.Common.{◌≡◌, ℕ, Bool, false, true≢false, List, [], ◌∷◌, ◌++◌, sym, refl, ap, ◌∙◌, subst, append_assoc, append-nil}
 use Rattle.std.specs.List.Sorted.{IsPermutation}
 use Rattle.std.proofs.lemmas.List.Sorted.{IsPermutation-refl, IsPermutation-trans, IsPermutation-append_right}
-use Rattle.hy_job.specs.Rest.{Free, IsOpen, AnyOrder, InOrderContinues, FreeContinues, HeldContinues, ContinuesThen, IdleContinues, InOrderAlive, FreeAlive, HeldAlive, InOrderFinished, FreeFinished, HeldFinished, NoneIsOpen}
+use Rattle.hy_rest.specs.Rest.{Free, IsOpen, AnyOrder, InOrderContinues, FreeContinues, HeldContinues, ContinuesThen, IdleContinues, InOrderAlive, FreeAlive, HeldAlive, InOrderFinished, FreeFinished, HeldFinished, NoneIsOpen}
 
 pub in_order_continues : {F A : Type 0} (may may' : List F → Type 0) (out out' : List F → List A → Type 0) → InOrderContinues may may' out out'
 in_order_continues may may' out out' owed owed' held held' fed sent opens step = record {
