@@ -3,9 +3,11 @@
 #![tactic(auto)]
 
 mod fault;
+mod laws;
 mod shelf;
 mod store;
 
 pub use fault::{Next, OpFault, StoreFault};
+pub use laws::field_laws;
 pub use shelf::Shelf;
 pub use store::RunStore;
