@@ -4,7 +4,7 @@ use Rattle.std.specs.List.Sorted.{IsPermutation}
 use Rattle.std.proofs.lemmas.List.Sorted.{IsPermutation-refl}
 use Rattle.hy_rest.specs.Rest.{InOrder, Free, Continues}
 use Rattle.hy_rest.specs.Words.{Open, Close, WriterWord}
-use Rattle.hy_rest.specs.Cases.{tens, InOrderStands, FreeMoves, FreeStands, SendIsOwed, FeedIsHeld, EndedStaysAway, AliveHasSome, FinishedOwesNone, WordsBegin, WordsGoOn}
+use Rattle.hy_rest.specs.Cases.{tens, InOrderStands, FreeMoves, FreeStands, SendIsOwed, FeedIsHeld, EndedStaysAway, AliveHasSome, FinishedOwesNone, PassesThrough, WordsBegin, WordsGoOn}
 
 differ : {x y : ℕ} {xs ys : List ℕ} → (x ≡ y → ⊥) → (x ∷ xs) ≡ (y ∷ ys) → ⊥
 differ n e = n (head e)
@@ -72,6 +72,13 @@ finished_owes_none = (
   λ f. no_cons (sym f.some.1.is),
   λ f. no_cons (f.only (1 ∷ []) (11 ∷ []) (record { rest = 11 ∷ []; output = refl; is = refl })).0,
   λ f. f.some,
+  record { some = (refl, record { rest = []; output = refl; is = refl }); only = λ took put h. (h.0, h.1.is ∙ ap (λ r. 1 ∷ r) (h.1.output ∙ ap (map (λ x. x + 10)) h.0)) },
+)
+
+pub passes_through : PassesThrough
+passes_through put = (
+  λ h. h.puts ∙ ap (λ r. 7 ∷ r) (h.works_on.is ∙ ap (λ r. 1 ∷ r) h.works_on.output),
+  λ e. record { made = 1 ∷ 15 ∷ 13 ∷ []; works_on = record { rest = 15 ∷ 13 ∷ []; output = refl; is = refl }; puts = e },
 )
 
 pub words_begin : WordsBegin

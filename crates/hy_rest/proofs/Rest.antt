@@ -2,7 +2,7 @@
 use Rattle.std.proofs.Common.{◌≡◌, ℕ, Bool, false, true≢false, List, [], ◌∷◌, ◌++◌, sym, refl, ap, ◌∙◌, subst, append_assoc, append-nil}
 use Rattle.std.specs.List.Sorted.{IsPermutation}
 use Rattle.std.proofs.lemmas.List.Sorted.{IsPermutation-refl, IsPermutation-trans, IsPermutation-append_right}
-use Rattle.hy_rest.specs.Rest.{Free, IsOpen, AnyOrder, InOrderContinues, FreeContinues, HeldContinues, ContinuesThen, IdleContinues, InOrderAlive, FreeAlive, HeldAlive, InOrderFinished, FreeFinished, HeldFinished, NoneIsOpen}
+use Rattle.hy_rest.specs.Rest.{ThroughContinues, ThroughAlive, ThroughFinished, FinishesWithNone, RunsToEnd, Free, IsOpen, AnyOrder, InOrderContinues, FreeContinues, HeldContinues, ContinuesThen, IdleContinues, InOrderAlive, FreeAlive, HeldAlive, InOrderFinished, FreeFinished, HeldFinished, NoneIsOpen}
 
 pub in_order_continues : {F A : Type 0} (may may' : List F → Type 0) (out out' : List F → List A → Type 0) → InOrderContinues may may' out out'
 in_order_continues may may' out out' owed owed' held held' fed sent opens step = record {
@@ -98,4 +98,35 @@ held_finished may stands out may_none no_more one each = record {
       let e = no_more t h.0 in
       let f = h.1 one.0 one.1 in
       (e, f.alone refl ∙ (each one.0 one.1).1 f.rest (subst (λ l. out l f.rest) (ap (λ x. one.0 ++ x) e ∙ append-nil one.0) f.output));
+}
+
+pub finishes_with_none : {F A : Type 0} (rest : List F → List A → Type 0) → FinishesWithNone rest
+finishes_with_none rest = (λ f. record { some = f.some; only = f.only }, λ f. record { some = f.some; only = f.only })
+
+pub runs_to_end : {F A : Type 0} (first final : List F → List A → Type 0) → RunsToEnd first final
+runs_to_end first final took put last goes_on ends = subst (λ t. first t (put ++ last)) (append-nil took) (goes_on.back [] last ends.some)
+
+-- ---- what goes through others
+
+pub through_continues : {F G B A : Type 0} (into into' : List F → List G) (works works' : List G → List B → Type 0) (out out' : List B → List A → Type 0) → ThroughContinues into into' works works' out out'
+through_continues into into' works works' out out' fed given gave sent feeds goes_on puts = record {
+  back = λ t p h. record {
+    made = gave ++ h.made;
+    works_on = subst (λ g. works g (gave ++ h.made)) (sym (feeds t)) (goes_on.back (into' t) h.made h.works_on);
+    puts = puts h.made p h.puts;
+  };
+}
+
+pub through_alive : {F G B A : Type 0} (may : List F → Type 0) (may_work : List G → Type 0) (into : List F → List G) (works : List G → List B → Type 0) (out : List B → List A → Type 0) → ThroughAlive may may_work into works out
+through_alive may may_work into works out comes alive all t h =
+    let made = alive (into t) (comes t h) in
+    let put = all made.0 in
+    (put.0, record { made = made.0; works_on = made.1; puts = put.1 })
+
+pub through_finished : {F G B A : Type 0} (into : List F → List G) (works : List G → List B → Type 0) (out : List B → List A → Type 0) → ThroughFinished into works out
+through_finished into works out last put none only_none ends puts one = record {
+  some = record { made = last; works_on = subst (λ g. works g last) (sym none) ends.some; puts = puts };
+  only = λ t p h.
+      let e = ends.only (into t) h.made h.works_on in
+      (only_none t e.0, one p (subst (λ m. out m p) e.1 h.puts));
 }

@@ -1,7 +1,7 @@
 -- Worked cases of what may still be put, of steps, and of words.
 use Rattle.std.specs.Prelude.{◌≡◌, ◌↔◌, ◌+◌, ℕ, nat_eq, Bool, List, [], ◌∷◌, map}
 use Rattle.std.specs.List.Sorted.{IsPermutation}
-use Rattle.hy_rest.specs.Rest.{InOrder, Free, FreeForEach, IsOpen, Continues, Alive, Finished}
+use Rattle.hy_rest.specs.Rest.{InOrder, Free, FreeForEach, IsOpen, Continues, Alive, Finished, FinishedWith, Through}
 use Rattle.hy_rest.specs.Words.{Open, Rows, Fail, Close, WriterWord, IsWordSoFar, put_rows}
 
 -- ten more than each number, in order
@@ -60,6 +60,11 @@ FinishedOwesNone = Finished (λ took put. (took ≡ []) × InOrder [] [] tens to
     × (Finished (λ took put. (took ≡ []) × InOrder (1 ∷ []) [] tens took put) → ⊥)
     × (Finished (InOrder [] [] tens) → ⊥)
     × (Finished (λ (took put : List ℕ). ⊥) → ⊥)
+    × FinishedWith (1 ∷ []) (λ took put. (took ≡ []) × InOrder (1 ∷ []) [] tens took put)
+
+-- one that works in order and owes a row, with a row in front that it has not been given and one behind it that it has made
+abbrev pub PassesThrough : Type 0
+PassesThrough = (put : List ℕ) → Through (λ took. 5 ∷ took) (InOrder (1 ∷ []) [] tens) (λ made put. put ≡ 7 ∷ made) (3 ∷ []) put ↔ (put ≡ 7 ∷ 1 ∷ 15 ∷ 13 ∷ [])
 
 -- ---- words
 

@@ -38,6 +38,18 @@ pub record Finished {F A : Type 0} (rest : List F → List A → Type 0) : Type 
   pub some : rest [] []
   pub only : (took : List F) (put : List A) → rest took put → (took ≡ []) × (put ≡ [])
 
+-- to take nothing any more and to put just this is all that it may do, and that it may
+pub record FinishedWith {F A : Type 0} (last : List A) (rest : List F → List A → Type 0) : Type 0 where
+  pub some : rest [] last
+  pub only : (took : List F) (put : List A) → rest took put → (took ≡ []) × (put ≡ last)
+
+-- what comes in goes through others before it is worked on, and what is made before it is put: what is taken is this to the one
+-- that works, and what it then makes is put as this
+pub record Through {F G B A : Type 0} (into : List F → List G) (works : List G → List B → Type 0) (out : List B → List A → Type 0) (took : List F) (put : List A) : Type 0 where
+  pub made : List B
+  pub works_on : works (into took) made
+  pub puts : out made put
+
 -- the outputs may come in any order
 abbrev pub AnyOrder : {F A : Type 0} → (List F → List A → Type 0) → Type 0
 AnyOrder {F} {A} out = (took : List F) (rest moved : List A) → out took rest → IsPermutation rest moved → out took moved
@@ -109,3 +121,38 @@ HeldFinished {F} {A} may stands out = may [] → ((took : List F) → may took �
 -- where every input has ended, nothing comes
 abbrev pub NoneIsOpen : Type 0 → Type 0
 NoneIsOpen A = (ended : ℕ → Bool) → ((input : ℕ) → ended input ≡ true) → (took : List (ℕ × A)) → IsOpen ended took → took ≡ []
+
+-- ---- laws of what goes through others
+
+-- what a step takes is this to the one that works, before what is still to be taken
+abbrev pub FeedsOn : {F G : Type 0} → (List F → List G) → (List F → List G) → List F → List G → Type 0
+FeedsOn {F} {G} into into' fed given = (took : List F) → into (fed ++ took) ≡ given ++ into' took
+
+-- what the one that works then makes may be put behind what the step puts
+abbrev pub PutsOn : {B A : Type 0} → (List B → List A → Type 0) → (List B → List A → Type 0) → List B → List A → Type 0
+PutsOn {B} {A} out out' gave sent = (made : List B) (put : List A) → out' made put → out (gave ++ made) (sent ++ put)
+
+-- a step of the one that works, or none, with what it means before and behind it
+abbrev pub ThroughContinues : {F G B A : Type 0} → (into into' : List F → List G) → (works works' : List G → List B → Type 0) → (out out' : List B → List A → Type 0) → Type 0
+ThroughContinues {F} {G} {B} {A} into into' works works' out out' = (fed : List F) (given : List G) (gave : List B) (sent : List A)
+    → FeedsOn into into' fed given → Continues works given gave works' → PutsOn out out' gave sent
+    → Continues (Through into works out) fed sent (Through into' works' out')
+
+-- where the one that works always has something to make, and all of that can be put
+abbrev pub ThroughAlive : {F G B A : Type 0} → (List F → Type 0) → (List G → Type 0) → (List F → List G) → (List G → List B → Type 0) → (List B → List A → Type 0) → Type 0
+ThroughAlive {F} {G} {B} {A} may may_work into works out = ((took : List F) → may took → may_work (into took)) → Alive may_work works → ((made : List B) → (put : List A) × out made put)
+    → Alive may (Through into works out)
+
+-- where the one that works has finished with this, that is put as this and nothing else, and to be given nothing is to take nothing
+abbrev pub ThroughFinished : {F G B A : Type 0} → (List F → List G) → (List G → List B → Type 0) → (List B → List A → Type 0) → Type 0
+ThroughFinished {F} {G} {B} {A} into works out = (last : List B) (put : List A) → into [] ≡ [] → ((took : List F) → into took ≡ [] → took ≡ [])
+    → FinishedWith last works → out last put → ((other : List A) → out last other → other ≡ put)
+    → FinishedWith put (Through into works out)
+
+-- who has finished with nothing has finished
+abbrev pub FinishesWithNone : {F A : Type 0} → (List F → List A → Type 0) → Type 0
+FinishesWithNone rest = (FinishedWith [] rest → Finished rest) × (Finished rest → FinishedWith [] rest)
+
+-- what a whole run took and put, before it finished with this
+abbrev pub RunsToEnd : {F A : Type 0} → (List F → List A → Type 0) → (List F → List A → Type 0) → Type 0
+RunsToEnd {F} {A} first final = (took : List F) (put last : List A) → Continues first took put final → FinishedWith last final → first took (put ++ last)

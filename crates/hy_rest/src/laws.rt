@@ -1,8 +1,8 @@
 //! The laws of what may still be put, and worked cases.
 
 ghost use Rattle.std.specs.Prelude.{List};
-ghost use Rattle.hy_rest.specs.Rest.{ContinuesThen, FreeAlive, FreeContinues, FreeFinished, HeldAlive, HeldContinues, HeldFinished, IdleContinues, InOrderAlive, InOrderContinues, InOrderFinished, NoneIsOpen};
-ghost use Rattle.hy_rest.specs.Cases.{AliveHasSome, EndedStaysAway, FeedIsHeld, FinishedOwesNone, FreeMoves, FreeStands, InOrderStands, SendIsOwed, WordsBegin, WordsGoOn};
+ghost use Rattle.hy_rest.specs.Rest.{ContinuesThen, FreeAlive, FreeContinues, FreeFinished, HeldAlive, HeldContinues, HeldFinished, IdleContinues, InOrderAlive, InOrderContinues, InOrderFinished, FinishesWithNone, NoneIsOpen, RunsToEnd, ThroughAlive, ThroughContinues, ThroughFinished};
+ghost use Rattle.hy_rest.specs.Cases.{AliveHasSome, EndedStaysAway, FeedIsHeld, FinishedOwesNone, FreeMoves, FreeStands, InOrderStands, PassesThrough, SendIsOwed, WordsBegin, WordsGoOn};
 
 /// The present state of a task, or of a part of one, as the laws see it.
 pub trait Resting<F, A> {
@@ -35,7 +35,36 @@ pub fn rest_laws<F, A, Old: Resting<F, A>, New: Resting<F, A>, Last: Resting<F, 
     ensures finished { (last : Last) → InOrderFinished (Last.may last) (Last.out last) }
     ensures free_finished { (last : Last) → FreeFinished (Last.may last) (Last.out last) }
     ensures for_each_finished { (last : Last) → HeldFinished (Last.may last) (Last.stands last) (Last.out last) }
+    ensures with_none { (last : Last) → FinishesWithNone (Last.rest last) }
+    ensures to_end { (old : Old) (last : Last) → RunsToEnd (Old.rest old) (Last.rest last) }
     ensures none_open { NoneIsOpen A }
+{}
+
+/// A part of which what is taken goes through others before it works on it, and what it makes before
+/// that is put, as the laws see it.
+pub trait Passage<F, G, B, A> {
+    /// What may still be taken, and what the one that works may still be given.
+    ghost may: { Self → List F → Type 0 };
+
+    ghost may_work: { Self → List G → Type 0 };
+
+    /// What the one that works is given of what is taken.
+    ghost into: { Self → List F → List G };
+
+    /// What it may still make for that.
+    ghost works: { Self → List G → List B → Type 0 };
+
+    /// What may be put of what it makes.
+    ghost out: { Self → List B → List A → Type 0 };
+}
+
+/// The laws by which one that works, with others before and behind it, is one whole: a step of the
+/// one that works, or of the others, is a step of the whole. It does nothing: its clauses speak of
+/// the states before and after a step.
+pub fn passage_laws<F, G, B, A, Old: Passage<F, G, B, A>, New: Passage<F, G, B, A>>()
+    ensures continues { (old : Old) (new : New) → ThroughContinues (Old.into old) (New.into new) (Old.works old) (New.works new) (Old.out old) (New.out new) }
+    ensures alive { (new : New) → ThroughAlive (New.may new) (New.may_work new) (New.into new) (New.works new) (New.out new) }
+    ensures finished { (new : New) → ThroughFinished (New.into new) (New.works new) (New.out new) }
 {}
 
 /// What states that owe and hold rows may put, which steps lead from one to another, and which words
@@ -49,6 +78,7 @@ pub fn rest_cases()
     ensures ended { EndedStaysAway }
     ensures alive { AliveHasSome }
     ensures finished { FinishedOwesNone }
+    ensures through { PassesThrough }
     ensures words_begin { WordsBegin }
     ensures words_go_on { WordsGoOn }
 {}

@@ -4,4 +4,4 @@
 
 mod laws;
 
-pub use laws::{Resting, rest_cases, rest_laws};
+pub use laws::{Passage, Resting, passage_laws, rest_cases, rest_laws};

@@ -1,4 +1,4 @@
-use Rattle.hy_rest.proofs.Cases.{in_order_stands, free_moves, free_stands, send_is_owed, feed_is_held, ended_stays_away, alive_has_some, finished_owes_none, words_begin, words_go_on}
+use Rattle.hy_rest.proofs.Cases.{in_order_stands, free_moves, free_stands, send_is_owed, feed_is_held, ended_stays_away, alive_has_some, finished_owes_none, passes_through, words_begin, words_go_on}
 use Rattle.hy_rest.proofs.laws.rest_cases.Goals as goal
 
 pub returns-clause-in_order : goal.returns-clause-in_order
@@ -30,3 +30,6 @@ returns-clause-words_begin c = words_begin
 
 pub returns-clause-words_go_on : goal.returns-clause-words_go_on
 returns-clause-words_go_on c = words_go_on
+
+pub returns-clause-through : goal.returns-clause-through
+returns-clause-through c = passes_through

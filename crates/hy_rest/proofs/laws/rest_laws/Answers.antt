@@ -1,4 +1,4 @@
-use Rattle.hy_rest.proofs.Rest.{in_order_continues, free_continues, held_continues, continues_then, idle_continues, in_order_alive, free_alive, held_alive, in_order_finished, free_finished, held_finished, none_open}
+use Rattle.hy_rest.proofs.Rest.{in_order_continues, free_continues, held_continues, continues_then, idle_continues, in_order_alive, free_alive, held_alive, in_order_finished, free_finished, held_finished, none_open, finishes_with_none, runs_to_end}
 use Rattle.hy_rest.proofs.laws.rest_laws.Goals as goal
 
 pub returns-clause-in_order : goal.returns-clause-in_order
@@ -36,3 +36,9 @@ returns-clause-for_each_finished g c old = held_finished _ _ _
 
 pub returns-clause-none_open : goal.returns-clause-none_open
 returns-clause-none_open g c = none_open
+
+pub returns-clause-with_none : goal.returns-clause-with_none
+returns-clause-with_none g c last = finishes_with_none _
+
+pub returns-clause-to_end : goal.returns-clause-to_end
+returns-clause-to_end g c old last = runs_to_end _ _
