@@ -1,3 +1,5 @@
 pub mod Faults
 pub mod Fields
+pub mod Mem
 pub mod Runs
+pub mod Slots

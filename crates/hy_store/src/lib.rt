@@ -4,10 +4,12 @@
 
 mod fault;
 mod laws;
+mod mem;
 mod shelf;
 mod store;
 
 pub use fault::{Next, OpFault, StoreFault};
 pub use laws::field_laws;
+pub use mem::MemStore;
 pub use shelf::Shelf;
 pub use store::RunStore;
