@@ -1,7 +1,8 @@
 -- What becomes of the runs when their slots change.
-use Rattle.std.proofs.Common.{◌≡◌, ◌≢◌, ℕ, zero, suc, ◌+◌, ◌<◌, ◌≤◌, Bool, true, false, List, [], ◌∷◌, ◌++◌, length, get_or, set, Option, Some, None, refl, sym, ap, subst, ◌∙◌, arith}
-use Rattle.std.specs.Prelude.{nat_eq}
-use Rattle.std.specs.List.{Contains}
+use Rattle.std.proofs.Common.{◌≡◌, ◌≢◌, ℕ, zero, suc, ◌+◌, ◌<◌, true, false, List, [], ◌∷◌, ◌++◌, length, get_or, set, Option, Some, None, refl, sym, ap, subst, ◌∙◌, arith}
+use Rattle.std.specs.Prelude.{nat_eq, is_some, cond, Result, Ok, Err, OnOk}
+use Rattle.std.proofs.lemmas.List.Sums.{sum_by-cons}
+use Rattle.std.specs.List.{Contains, count_by}
 use Rattle.std.specs.Option.{option_map, option_map_or, IsSome}
 use Rattle.al_value.specs.Outside.{Told}
 use Rattle.std.proofs.lemmas.Bool.Decides.{nat_tests}
@@ -9,8 +10,10 @@ use Rattle.std.proofs.lemmas.List.{get_or-set_same, get_or-set_other}
 use Rattle.std.proofs.Math.Seq.{get_or-append_seam}
 use Rattle.std.proofs.Math.ListN.{length-set, length-append}
 use Rattle.hy_frame.specs.Frame.{FrameOf}
-use Rattle.hy_store.specs.Runs.{Held, Others, Created, Grown, Removed, without}
+use Rattle.hy_store.specs.Runs.{Held, Created, Grown, Removed, without}
 use Rattle.hy_store.specs.Slots.{live_from, of_run, runs_of}
+use Rattle.hy_store.specs.Folder.{count_in, runs_in, GrewByOne}
+use Rattle.hy_store.specs.declared.folder.FolderRun.{FolderRun}
 
 module _ {X : Type 0} where
   -- the frames of each run, where they are told
@@ -171,3 +174,30 @@ mem_grown slots run frame before after h read push =
     let held : before ≡ Some t.1 = read ∙ get_any slots run before None t.0 ∙ t.2 in
     let grew : after ≡ Some (t.1 ++ frame ∷ []) = push ∙ ap (option_map (λ frames. frames ++ frame ∷ [])) held in
     rw grew (grown length (Some (λ frames. frames)) slots t.1 (t.1 ++ frame ∷ []) run frame t.0 t.2 (length-append t.1 (frame ∷ [])) refl)
+
+-- each slot that holds a run has one number
+pub live_count : {X : Type 0} (slots : List (Option X)) (n : ℕ) → length (live_from n slots) ≡ count_by is_some slots
+live_count [] n = refl
+live_count (None ∷ slots) n =
+    let more : count_by is_some (None ∷ slots) ≡ 0 + count_by is_some slots = sum_by-cons (λ o. cond (is_some o) 1 0) None slots in
+    let none : count_by is_some slots ≡ 0 + count_by is_some slots = omega arith in
+    live_count slots (n + 1) ∙ none ∙ sym more
+live_count (Some x ∷ slots) n =
+    let more : count_by is_some (Some x ∷ slots) ≡ 1 + count_by is_some slots = sum_by-cons (λ o. cond (is_some o) 1 0) (Some x) slots in
+    let one : suc (count_by is_some slots) ≡ 1 + count_by is_some slots = omega arith in
+    ap suc (live_count slots (n + 1)) ∙ one ∙ sym more
+
+-- a frame was put to the end of a run in a folder
+pub folder_grown : (slots : List (Option FolderRun)) (run : ℕ) (frame : FrameOf) (before after : Option FolderRun)
+    → Contains (live_from 0 slots) run → before ≡ get_or slots run before → GrewByOne before after
+    → Grown run frame (runs_in slots) (runs_in (set slots run after))
+folder_grown slots run frame before after h read grew =
+    let t = live_slot slots run h in
+    let held : before ≡ Some t.1 = read ∙ get_any slots run before None t.0 ∙ t.2 in
+    let more : GrewByOne (Some t.1) after = subst (λ o. GrewByOne o after) held grew in
+    rw more.1 (grown count_in None slots t.1 more.0 run frame t.0 t.2 more.2 tt)
+
+pub grew : {T E : Type 0} (r : Result T E) (before after : FolderRun) (slot : Option FolderRun)
+    → slot ≡ Some before → OnOk r (count_in after ≡ count_in before + 1) → OnOk r (GrewByOne slot (Some after))
+grew (Ok x) before after slot is h = subst (λ o. GrewByOne o (Some after)) (sym is) (after, refl, h)
+grew (Err e) before after slot is h = tt

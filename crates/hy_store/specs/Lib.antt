@@ -1,5 +1,6 @@
 pub mod Faults
 pub mod Fields
+pub mod Folder
 pub mod Mem
 pub mod Runs
 pub mod Slots

@@ -9,6 +9,7 @@ ghost use Rattle.hy_store.specs.Slots.{of_run};
 ghost use Rattle.hy_store.specs.Mem.{Slots, runs_in, Fails, next_call};
 
 use crate::fault::StoreFault;
+use crate::slots::count_live;
 use crate::store::RunStore;
 use al_value::{Failed, List, NoMemory};
 use hy_frame::{Frame, FrameCopy};
@@ -41,6 +42,20 @@ impl MemStore {
             calls: 0,
             faults: 0,
         }
+    }
+
+    /// How many runs are live.
+    pub(crate) fn live(&self) -> u64
+        ensures { result ≡ length (runs_in self.now).live }
+    {
+        count_live(self.runs.as_slice()) as u64
+    }
+
+    /// How many calls failed.
+    pub(crate) fn faults(&self) -> u64
+        ensures { result ≡ self.now.faults }
+    {
+        self.faults
     }
 
     /// Whether the outside serves this call; it is counted.

@@ -1,5 +1,4 @@
-use Rattle.std.proofs.Common.{rules, [], None, ◌∙◌, sym, ap}
-use Rattle.std.specs.Prelude.{slice_get}
+use Rattle.std.proofs.Common.{rules, []}
 use Rattle.hy_store.proofs.SlotLaws.{live_below, slot_here}
 use Rattle.hy_store.proofs.mem.MemStore.frame_at.Goals as goal
 

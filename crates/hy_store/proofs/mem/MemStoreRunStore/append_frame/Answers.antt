@@ -1,4 +1,4 @@
-use Rattle.std.proofs.Common.{rules, length, Some}
+use Rattle.std.proofs.Common.{rules}
 use Rattle.hy_store.proofs.SlotLaws.{live_below, mem_grown}
 use Rattle.hy_store.proofs.mem.MemStoreRunStore.append_frame.Goals as goal
 
