@@ -91,16 +91,20 @@ module _ {X : Type 0} where
       let e : t.0 ≡ r = omega (arith, t.1) in
       (omega (arith, e, t.2), t.3, subst (λ (k : ℕ). get_or slots k None ≡ Some t.3) e t.4)
 
-  -- what is told of other runs stays told
+  -- what is told of other runs
   told_made : (told : Option (X → List FrameOf)) (slots : List (Option X)) (x : X)
-      → Told (told_by told slots) (λ f. IsSome (told_by told (slots ++ Some x ∷ [])) × Told (told_by told (slots ++ Some x ∷ [])) (λ g. (r : ℕ) → r ≢ length slots → g r ≡ f r))
+      → Told (told_by told slots) (λ f. Told (told_by told (slots ++ Some x ∷ [])) (λ g. (r : ℕ) → r ≢ length slots → g r ≡ f r))
   told_made None slots x = tt
-  told_made (Some f) slots x = (refl, made_other f [] slots x)
+  told_made (Some f) slots x = made_other f [] slots x
 
   told_set : (told : Option (X → List FrameOf)) (slots : List (Option X)) (o : Option X) (run : ℕ)
-      → Told (told_by told slots) (λ f. IsSome (told_by told (set slots run o)) × Told (told_by told (set slots run o)) (λ g. (r : ℕ) → r ≢ run → g r ≡ f r))
+      → Told (told_by told slots) (λ f. Told (told_by told (set slots run o)) (λ g. (r : ℕ) → r ≢ run → g r ≡ f r))
   told_set None slots o run = tt
-  told_set (Some f) slots o run = (refl, set_other f [] slots o run)
+  told_set (Some f) slots o run = set_other f [] slots o run
+
+  tells_still : (told : Option (X → List FrameOf)) (old new : List (Option X)) → is_some (told_by told new) ≡ is_some (told_by told old)
+  tells_still None old new = refl
+  tells_still (Some f) old new = refl
 
   -- what is told of a run that was made, and of one that grew
   told_new : (told : Option (X → List FrameOf)) (slots : List (Option X)) (x : X) → Told told (λ f. f x ≡ []) → Told (told_by told (slots ++ Some x ∷ [])) (λ g. g (length slots) ≡ [])
@@ -126,7 +130,7 @@ module _ {X : Type 0} where
         made = length-append slots (Some x ∷ []);
         empty = made_new size 0 slots x ∙ none;
         held = told_new told slots x empty;
-        others = record { count = made_other size 0 slots x; held = told_made told slots x };
+        others = record { count = made_other size 0 slots x; tells = tells_still told slots (slots ++ Some x ∷ []); held = told_made told slots x };
       }
 
   -- a run that grew took its place
@@ -139,7 +143,7 @@ module _ {X : Type 0} where
         made = length-set slots run (Some y);
         longer = set_here size 0 slots y run lt ∙ longer ∙ ap (λ (n : ℕ). n + 1) (sym (held_here size 0 slots x run is));
         held = told_grown told slots x y run frame lt is more;
-        others = record { count = set_other size 0 slots (Some y) run; held = told_set told slots (Some y) run };
+        others = record { count = set_other size 0 slots (Some y) run; tells = tells_still told slots (set slots run (Some y)); held = told_set told slots (Some y) run };
       }
 
   -- a slot was emptied
@@ -149,7 +153,7 @@ module _ {X : Type 0} where
       record {
         live = rw first at (live_drop slots 0 run);
         made = length-set slots run None;
-        others = record { count = set_other size 0 slots None run; held = told_set told slots None run };
+        others = record { count = set_other size 0 slots None run; tells = tells_still told slots (set slots run None); held = told_set told slots None run };
       }
 
   get_any : (slots : List (Option X)) (r : ℕ) (a b : Option X) → r < length slots → get_or slots r a ≡ get_or slots r b
