@@ -15,7 +15,7 @@ mod store;
 pub use fault::{Next, OpFault, StoreFault};
 pub use folder::FolderStore;
 pub use folder_shelf::FolderShelf;
-pub use laws::{field_laws, store_laws};
+pub use laws::{field_laws, store_cases, store_laws};
 pub use mem::MemStore;
 pub use mem_shelf::MemShelf;
 pub use shelf::Shelf;
