@@ -1,0 +1,4 @@
+pub mod Cases
+pub mod DeskMade
+pub mod RowLaws
+pub mod WordLaws

@@ -1,0 +1,7 @@
+pub mod Cases
+pub mod DeskLaws
+pub mod Desks
+pub mod Events
+pub mod Laws
+pub mod Rows
+pub mod Words
