@@ -1,10 +1,10 @@
 -- A desk's mailboxes, as they are made.
-use Rattle.std.proofs.Common.{◌≡◌, ◌==◌, ◌<◌, ◌≤◌, ◌^◌, ℕ, suc, true, List, [], ◌∷◌, ◌++◌, length, get_or, sym, subst, ◌∙◌, arith}
+use Rattle.std.proofs.Common.{◌≡◌, ◌⊎◌, ◌==◌, ◌<◌, ◌≤◌, ◌^◌, ℕ, suc, true, List, [], ◌∷◌, ◌++◌, length, get_or, sym, subst, ◌∙◌, inl, inr, arith, length-append}
 use Rattle.std.specs.List.{IsDistinct, list_any}
 use Rattle.std.specs.Prelude.{All}
 use Rattle.std.proofs.lemmas.Map.Steps.{length-le_from_distinct_below}
 use Rattle.std.proofs.lemmas.Map.Views.{Contains-from_any}
-use Rattle.std.proofs.lemmas.List.{get_or_default}
+use Rattle.std.proofs.lemmas.List.{get_or_append_left, get_or_default}
 use Rattle.std.proofs.lemmas.List.Elements.{All-nil}
 use borrow.Author.Tests.{eqb-true}
 use Rattle.hy_mail.specs.declared.parcel.Posted.{Posted}
@@ -22,5 +22,8 @@ few_senders senders different small = length-le_from_distinct_below senders (2 ^
 pub no_posted : (senders arity : ℕ) (queue : List Posted) → queue ≡ [] → All (IsPostedIn senders arity) queue
 no_posted senders arity queue is = subst (All (IsPostedIn senders arity)) (sym is) (All-nil (IsPostedIn senders arity))
 
-pub rest_posted : (senders arity : ℕ) (x : Posted) (queue rest : List Posted) → queue ≡ (x ∷ []) ++ rest → All (IsPostedIn senders arity) queue → All (IsPostedIn senders arity) rest
-rest_posted senders arity x queue rest is h k d lt = subst (All (IsPostedIn senders arity)) is h (suc k) d (omega arith)
+-- what is left once one was taken at an end
+pub rest_posted : (senders arity : ℕ) (x : Posted) (queue rest : List Posted) → (queue ≡ (x ∷ []) ++ rest) ⊎ (queue ≡ rest ++ (x ∷ [])) → All (IsPostedIn senders arity) queue → All (IsPostedIn senders arity) rest
+rest_posted senders arity x queue rest (inl is) h k d lt = subst (All (IsPostedIn senders arity)) is h (suc k) d (omega arith)
+rest_posted senders arity x queue rest (inr is) h k d lt =
+    subst (IsPostedIn senders arity) (get_or_append_left rest (x ∷ []) d k lt) (subst (All (IsPostedIn senders arity)) is h k d (omega (arith, length-append rest (x ∷ []))))

@@ -1,5 +1,5 @@
 -- Fields are values' fields, and rows rows of values.
-use Rattle.std.proofs.Common.{◌≡◌, ℕ, zero, suc, ◌+◌, ◌-◌, ◌^◌, ◌<◌, ◌≤◌, List, [], ◌∷◌, ◌++◌, length, ℤ, pos, negsuc, true, false, refl, sym, ap, subst, ◌∙◌, inl, inr, arith}
+use Rattle.std.proofs.Common.{◌≡◌, ℕ, suc, ◌-◌, ◌^◌, ◌<◌, List, [], ◌∷◌, length, ℤ, pos, negsuc, true, false, refl, sym, ap, subst, ◌∙◌, inl, inr, arith}
 use Rattle.std.specs.Prelude.{FitsSigned, map, All}
 use Rattle.std.specs.Int.{w64}
 use Rattle.std.proofs.lemmas.Bool.{cases_lt}
@@ -15,10 +15,8 @@ use Rattle.al_value.specs.declared.value.Value.{Value}
 use Rattle.al_value.specs.declared.value.Value.TheVariants as V
 use Rattle.hy_frame.specs.Field.{IsField}
 use Rattle.hy_frame.specs.FrameText.{AllRows}
-use Rattle.hy_frame.specs.Row.{AllFields, Fields, IsRow}
-use Rattle.hy_mail.specs.declared.parcel.Parcel.{Parcel}
-use Rattle.hy_mail.specs.declared.parcel.Parcel.TheVariants.{Open, Frame, Fail, Close}
-use Rattle.hy_mail.specs.Rows.{AreRowsOf, FieldsAreValues, FieldsTellValues, IsSeenWith, ParcelsAreSeen, ParcelsAreSeenOnce, RowsAreValues, RowsTellValues, fields_of, rows_in}
+use Rattle.hy_frame.specs.Row.{AllFields, Fields}
+use Rattle.hy_mail.specs.Rows.{AreRowsOf, FieldsAreValues, FieldsTellValues, ParcelsAreSeen, ParcelsAreSeenOnce, RowsAreValues, RowsTellValues, fields_of, rows_in}
 
 -- ---- fields
 

@@ -1,5 +1,6 @@
 -- Words by their parcels, and by how far they have come.
-use Rattle.std.proofs.Common.{◌≡◌, true, List, [], ◌∷◌, ◌++◌, refl, sym, subst, ◌∙◌}
+use Rattle.std.proofs.Common.{◌≡◌, ◌<◌, ℕ, zero, suc, true, List, [], ◌∷◌, ◌++◌, length, get_or, refl, sym, subst, ◌∙◌, arith}
+use Rattle.std.specs.List.{Contains}
 use Rattle.hy_frame.specs.declared.writer.WriterState.{WriterState}
 use Rattle.hy_frame.specs.declared.writer.WriterState.TheVariants.{Initial, Opened, Failed, Closed}
 use Rattle.hy_mail.specs.declared.parcel.Parcel.{Parcel}
@@ -109,3 +110,19 @@ may_next word v p a = (
       let h = leads_through Initial l.0 word (p ∷ []) l.1 in
       subst (λ s. may s p ≡ true) (told_state Initial h.0 v word h.1 a) h.2.0,
 )
+
+-- ---- a Close that was taken
+
+-- behind a Close the word has closed
+closes : (w u : WriterState) (word : List Parcel) (k : ℕ) → Leads w word u → k < length word → get_or word k Close ≡ Close → u ≡ Closed
+closes w u [] k a lt is = absurd (omega arith)
+closes w u (p ∷ ps) zero a lt is =
+    let at : Leads Closed ps u = subst (λ x. Leads (next w x) ps u) is a.1 in
+    subst (λ l. Leads Closed l u) (closed_last ps u at) at
+closes w u (p ∷ ps) (suc k) a lt is = closes (next w p) u ps k a.1 (omega arith) is
+
+-- of a word so far, of which a front with a Close was taken, nothing is left
+pub all_taken : (put taken left : List Parcel) (v : WriterState) → Leads Initial put v → put ≡ taken ++ left → Contains taken Close → left ≡ []
+all_taken put taken left v word is closed =
+    let h = leads_through Initial v taken left (subst (λ l. Leads Initial l v) is word) in
+    closed_last left v (subst (λ u. Leads u left v) (closes Initial h.0 taken closed.0 h.1 closed.1 closed.2) h.2)

@@ -1,5 +1,5 @@
 -- What each step keeps of a desk.
-use Rattle.std.proofs.Common.{◌≡◌, ◌≢◌, ◌<◌, ◌==◌, ℕ, Bool, true, false, List, [], ◌∷◌, length, get_or, set, sym, refl, ap, ◌∙◌, subst, Option, Some, None, ◌⊎◌, inl, inr, eq-eqb}
+use Rattle.std.proofs.Common.{◌≡◌, ◌≢◌, ◌<◌, ◌==◌, ℕ, Bool, true, false, List, length, get_or, sym, refl, ap, ◌∙◌, subst, Some, inl, inr, eq-eqb}
 use Rattle.std.specs.Prelude.{if◌then◌else◌}
 use Rattle.std.proofs.lemmas.Bool.{cases_Bool}
 use Rattle.std.proofs.lemmas.List.{get_or-set_same, get_or-set_other}
@@ -13,21 +13,21 @@ use Rattle.hy_mail.specs.Words.{HasArity, may, next}
 use Rattle.hy_mail.specs.Events.{Event, Put, Took, Raise, Look, Full, Empty, word_after, refused_after}
 use Rattle.hy_mail.specs.Desks.{BoxState, DeskState, DeskStep, Sends, Receives, blank, box, with_box, pushed, popped, refusing, seat_of, word_at, word_of}
 
-false_true : ◌≡◌ {A = Bool} false true → ⊥
+pub false_true : ◌≡◌ {A = Bool} false true → ⊥
 false_true e = cc
 
 -- numbers whose test says no differ
-apart : (a b : ℕ) → (a == b) ≡ false → b ≢ a
+pub apart : (a b : ℕ) → (a == b) ≡ false → b ≢ a
 apart a b n e = false_true (sym n ∙ eq-eqb a b (sym e))
 
-box_same : (d : DeskState) (m : ℕ) (b : BoxState) → m < length d.boxes → box (with_box d m b) m ≡ b
+pub box_same : (d : DeskState) (m : ℕ) (b : BoxState) → m < length d.boxes → box (with_box d m b) m ≡ b
 box_same d m b lt = get_or-set_same d.boxes m b blank lt
 
-box_other : (d : DeskState) (k m : ℕ) (b : BoxState) → m ≢ k → box (with_box d k b) m ≡ box d m
+pub box_other : (d : DeskState) (k m : ℕ) (b : BoxState) → m ≢ k → box (with_box d k b) m ≡ box d m
 box_other d k m b ne = get_or-set_other d.boxes k m b blank ne
 
 -- what a change of one mailbox leaves as it was there is so at each mailbox
-after_change : (A : Type 0) (f : BoxState → A) (d : DeskState) (k m : ℕ) (b : BoxState) → k < length d.boxes → f b ≡ f (box d k) → f (box (with_box d k b) m) ≡ f (box d m)
+pub after_change : (A : Type 0) (f : BoxState → A) (d : DeskState) (k m : ℕ) (b : BoxState) → k < length d.boxes → f b ≡ f (box d k) → f (box (with_box d k b) m) ≡ f (box d m)
 after_change A f d k m b lt same =
     elim (cases_Bool (k == m)) [
       | inl y ↦ let e = eqb-true k m y in
@@ -37,7 +37,7 @@ after_change A f d k m b lt same =
 
 -- ---- words
 
-words_by : ℕ → BoxState → WriterState
+unfoldable pub words_by : ℕ → BoxState → WriterState
 words_by task b = word_at b.words (seat_of b.senders task)
 
 word_put : (task : ℕ) (b : BoxState) (s : ℕ) (p : Parcel) → seat_of b.senders task ≡ Some s → s < length b.words → words_by task (pushed b s p) ≡ next (words_by task b) p
@@ -84,20 +84,20 @@ desk_counts task d e (Empty k) m h = counted d e k m h.0 h.2
 
 -- ---- how the mailboxes were made
 
-abbrev Made : Type 0
-Made = List ℕ × ℕ × ℕ
+abbrev pub Made : Type 0
+Made = List ℕ × ℕ × ℕ × ℕ
 
-abbrev made : BoxState → Made
-made b = (b.senders, b.receiver, b.arity)
+abbrev pub made : BoxState → Made
+made b = (b.senders, b.receiver, b.arity, b.capacity)
 
-AreAsMade : DeskState → DeskState → Type 0
+unfoldable pub AreAsMade : DeskState → DeskState → Type 0
 AreAsMade d e = (length e.boxes ≡ length d.boxes) × ((m : ℕ) → made (box e m) ≡ made (box d m))
 
 changed_as_made : (d e : DeskState) (k : ℕ) (b : BoxState) → k < length d.boxes → e ≡ with_box d k b → made b ≡ made (box d k) → AreAsMade d e
 unfolding AreAsMade
 changed_as_made d e k b lt is same = (ap (λ y. length y.boxes) is ∙ length-set d.boxes k b, λ m. ap (λ y. made (box y m)) is ∙ after_change Made made d k m b lt same)
 
-as_made : (task : ℕ) (d e : DeskState) (x : Event) → DeskStep task d x e → AreAsMade d e
+pub as_made : (task : ℕ) (d e : DeskState) (x : Event) → DeskStep task d x e → AreAsMade d e
 unfolding AreAsMade
 as_made task d e (Put k p) h = changed_as_made d e k (pushed (box d k) h.number p) h.there h.is refl
 as_made task d e (Took k s p) h = changed_as_made d e k (popped (box d k) h.rest) h.there h.is refl

@@ -1,5 +1,6 @@
 pub mod Cases
 pub mod DeskLaws
+pub mod DeskRuns
 pub mod Desks
 pub mod Events
 pub mod Laws

@@ -1,5 +1,5 @@
 -- The rows of values that frames and parcels hold as fields.
-use Rattle.std.specs.Prelude.{◌≡◌, ◌↔◌, ℕ, List, [], ◌∷◌, length, map, All}
+use Rattle.std.specs.Prelude.{◌≡◌, ◌↔◌, ℕ, List, [], length, map, All}
 use Rattle.al_value.specs.Field.{field_bytes}
 use Rattle.al_value.specs.Value.{IsValue}
 use Rattle.al_value.specs.declared.value.Value.{Value}
@@ -7,7 +7,7 @@ use Rattle.hy_frame.specs.Field.{IsField}
 use Rattle.hy_frame.specs.FrameText.{AllRows}
 use Rattle.hy_frame.specs.Row.{Fields, IsRow}
 use Rattle.hy_mail.specs.declared.parcel.Parcel.{Parcel}
-use Rattle.hy_mail.specs.declared.parcel.Parcel.TheVariants.{Open, Frame, Fail, Close}
+use Rattle.hy_mail.specs.declared.parcel.Parcel.TheVariants.{Frame}
 
 -- the fields of a row of values
 abbrev pub fields_of : List Value → Fields

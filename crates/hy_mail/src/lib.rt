@@ -10,7 +10,7 @@ mod plan;
 mod port;
 
 pub use desk::{Desk, DeskPort};
-pub use laws::{row_laws, word_laws};
+pub use laws::{desk_cases, desk_laws, row_cases, row_laws, word_cases, word_laws};
 pub use parcel::{Parcel, PutAnswer};
 pub use plan::BoxPlan;
 pub use port::Port;
