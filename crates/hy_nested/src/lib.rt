@@ -1,0 +1,10 @@
+//! The one row that a nested plan gives over the rows of a group, or over the outer row of a
+//! subplan.
+#![tactic(auto)]
+
+mod distinct;
+mod run;
+mod shape;
+
+pub use run::run_nested;
+pub use shape::row_wise;
