@@ -1,18 +1,18 @@
 -- States of aggregates that see one row more, state by state.
-use Rattle.std.proofs.Common.{◌≡◌, ◌<◌, ◌≤◌, ◌+◌, ℕ, zero, suc, List, [], ◌∷◌, ◌++◌, map, length, get_or, refl, ap, sym, subst, ◌∙◌, arith}
+use Rattle.std.proofs.Common.{◌≡◌, ◌<◌, ◌≤◌, ◌+◌, ℕ, zero, suc, List, [], ◌∷◌, ◌++◌, length, get_or, refl, ap, sym, subst, ◌∙◌, arith}
 use Rattle.std.proofs.Math.ListN.{set}
-use Rattle.std.specs.List.{AllZip}
-use Rattle.std.proofs.lemmas.List.{map-append}
+use Rattle.std.proofs.lemmas.List.{append_assoc, append-nil, map-append}
+use Rattle.std.proofs.lemmas.Grind.{flat_map-append}
 use Rattle.al_value.specs.declared.value.Value.{Value}
 use Rattle.al_value.specs.declared.value.Value.TheVariants as V
 use Rattle.al_func.specs.Rex.{eval_rex}
 use Rattle.al_agg.specs.Agg.{agg}
 use Rattle.al_agg.specs.declared.part.Part.{Part}
-use Rattle.al_agg.specs.Part.{Stands}
+use Rattle.al_agg.specs.Part.{Stands, StandsByFields, state_fields}
 use Rattle.al_agg.specs.Part as part
 use Rattle.hy_job.specs.declared.nested.AggRex.{AggRex}
 use Rattle.hy_job.specs.declared.nested.AggRex.TheVariants as C
-use Rattle.hy_job.specs.Columns.{Row, agg_of, agg_values, agg_value, agg_row}
+use Rattle.hy_job.specs.Columns.{Row, agg_of, agg_values, agg_value, agg_row, state_row}
 use Rattle.hy_job.specs.States.{agg_input, HasSeen, AreStates}
 
 values_push : (a : AggRex) (rows : List Row) (row : Row) → agg_values a (rows ++ row ∷ []) ≡ agg_values a rows ++ agg_input a row ∷ []
@@ -105,3 +105,16 @@ seen_none (C.Count e) p kind none = (kind, none)
 seen_none (C.Sum e) p kind none = (kind, none)
 seen_none (C.Min e) p kind none = (kind, none)
 seen_none (C.Max e) p kind none = (kind, none)
+
+-- the fields of one state more stand behind those of the others
+pub fields_more : (made : List AggRex) (rows : List Row) (states : List Part) (p : Part) (first out fields : Row) → ((made : List AggRex) (rows : List Row) → AreStates made rows states → out ≡ first ++ state_row made rows) → StandsByFields (part.agg_of p) fields p → AreStates made rows (states ++ p ∷ []) → out ++ fields ≡ first ++ state_row made rows
+fields_more made rows states p first out fields so by h =
+    let last = states_last made rows states p h in
+    let own : fields ≡ state_fields (agg_of last.1) (agg_values last.1 rows) = sym ((by (agg_values last.1 rows)).0 last.4.1) ∙ ap (λ a. state_fields a (agg_values last.1 rows)) last.4.0 in
+    let whole : state_row made rows ≡ state_row last.0 rows ++ state_fields (agg_of last.1) (agg_values last.1 rows) =
+    ap (λ (xs : List AggRex). state_row xs rows) last.2 ∙ flat_map-append (λ a. state_fields (agg_of a) (agg_values a rows)) last.0 (last.1 ∷ []) ∙ ap (λ (xs : Row). state_row last.0 rows ++ xs) (append-nil _) in
+    (λ i. so last.0 rows last.3 i ++ own i) ∙ append_assoc first (state_row last.0 rows) (state_fields (agg_of last.1) (agg_values last.1 rows)) ∙ ap (λ (xs : Row). first ++ xs) (sym whole)
+
+pub no_fields : (made : List AggRex) (rows : List Row) (first : Row) → AreStates made rows [] → first ≡ first ++ state_row made rows
+no_fields [] rows first h = sym (append-nil first)
+no_fields (a ∷ made) rows first h = absurd h

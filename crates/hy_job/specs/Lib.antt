@@ -17,3 +17,4 @@ pub mod RunCases
 pub mod Opens
 pub mod States
 pub mod Chains
+pub mod StateCases

@@ -19,9 +19,11 @@ pub use laws::{
 };
 pub use nested::{AggRex, GenRex, NestedPlan};
 pub use rows::{
-    append_rows, assign_rows, assigned, column, cut, cut_rows, expand_rows, expanded, generator_items,
-    holds, select_rows,
+    append_rows, assign_rows, assigned, column, cut, cut_rows, expand_rows, expanded,
+    generator_items, holds, select_rows,
 };
 pub use sort::{cmp_keys, sort_rows};
 pub use staging::stages;
-pub use states::{add_row, add_rows, agg_of, agg_row, finish_states, start_states};
+pub use states::{
+    add_row, add_rows, agg_of, agg_row, finish_states, put_states, start_states, state_cases,
+};

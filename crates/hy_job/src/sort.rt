@@ -22,7 +22,10 @@ pub fn cmp_keys(keys: &[SortKey], a: &[Value], b: &[Value]) -> Ordering
         [key, rest @ ..] => {
             let x = column(a, key.column, &none);
             let y = column(b, key.column, &none);
-            directed(key.descending, cmp_values(x, y)).then(cmp_keys(rest, a, b))
+            match directed(key.descending, cmp_values(x, y)) {
+                Ordering::Equal => cmp_keys(rest, a, b),
+                order => order,
+            }
         }
     }
 }

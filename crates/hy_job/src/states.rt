@@ -3,10 +3,11 @@ ghost use Rattle.std.specs.List.{All};
 ghost use Rattle.al_value.specs.declared.value.Value.{Value as Cell};
 ghost use Rattle.hy_job.specs.Columns as spec;
 ghost use Rattle.hy_job.specs.Sound.{AreSound, AreSoundAggs, agg_exprs};
+ghost use Rattle.hy_job.specs.StateCases.{BothAreSeen, EachHasState, NullIsPassedOver, StatesStandInOrder};
 ghost use Rattle.hy_job.specs.States.{AreStates, agg_input};
 
 use crate::nested::AggRex;
-use al_agg::{Agg, Part, add, finish, start};
+use al_agg::{Agg, Part, add, finish, put_part, start};
 use al_func::eval_rex;
 use al_value::{NoMemory, Row, Value};
 use std::alloc::Global;
@@ -87,6 +88,17 @@ pub fn add_rows(
     Ok(())
 }
 
+/// Puts the fields of the states behind a row. Where memory runs out, some of them are there.
+pub fn put_states(alloc: Global, states: &[Part], out: &mut Row) -> Result<(), NoMemory>
+    ensures { OnOk result ((made : List AggRex) (rows : List (List Cell))
+        → AreStates made rows states.now → out.new ≡ out.old ++ spec.state_row made rows) }
+{
+    for part in states {
+        put_part(alloc, part, out)?;
+    }
+    Ok(())
+}
+
 /// The row of the aggregates' values over the rows that the states have seen.
 pub fn finish_states(alloc: Global, states: Vec<Part>) -> Result<Row, NoMemory>
     ensures { IfOk result (λ row. (made : List AggRex) (rows : List (List Cell))
@@ -108,3 +120,11 @@ pub fn agg_row(alloc: Global, made: &[AggRex], rows: &[Row]) -> Result<Row, NoMe
     add_rows(alloc, &mut states, made, rows)?;
     finish_states(alloc, states)
 }
+
+/// Which states have seen which rows. It does nothing: its clauses are worked cases.
+pub fn state_cases()
+    ensures seen { BothAreSeen }
+    ensures null { NullIsPassedOver }
+    ensures in_order { StatesStandInOrder }
+    ensures each { EachHasState }
+{}

@@ -3,8 +3,10 @@
 #![tactic(auto)]
 
 mod distinct;
+mod laws;
 mod run;
 mod shape;
 
+pub use laws::nested_cases;
 pub use run::run_nested;
 pub use shape::row_wise;

@@ -1,6 +1,5 @@
 use Rattle.std.proofs.Common.{sym, ◌∙◌}
 use Rattle.hy_job.specs.declared.nested.NestedPlan.TheVariants as P
-use Rattle.hy_job.specs.Opens.{nested_shape, nested_hidden, row_hidden}
 use Rattle.hy_job.proofs.Chains.{assign_fits, select_fits, unnest_fits}
 use Rattle.hy_job.proofs.chain.+run_chain.Goals as goal
 

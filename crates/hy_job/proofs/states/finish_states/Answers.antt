@@ -1,5 +1,4 @@
-use Rattle.std.proofs.Common.{sym, subst, ◌∙◌}
-use Rattle.hy_job.specs.Columns.{Row, agg_row}
+use Rattle.std.proofs.Common.{◌∙◌}
 use Rattle.hy_job.proofs.StateLaws.{none_finished, finished}
 use Rattle.hy_job.proofs.states.finish_states.Goals as goal
 

@@ -1,5 +1,4 @@
-use Rattle.std.proofs.Common.{◌∷◌, [], ◌++◌, ◌+◌, List, take, refl, sym, subst, ◌∙◌}
-use Rattle.std.proofs.lemmas.List.{take_more}
+use Rattle.std.proofs.Common.{◌∷◌, [], ◌++◌, List, take, sym, subst, ◌∙◌}
 use Rattle.al_agg.specs.declared.part.Part.{Part}
 use Rattle.hy_job.specs.declared.nested.AggRex.{AggRex}
 use Rattle.hy_job.specs.States.{AreStates}
