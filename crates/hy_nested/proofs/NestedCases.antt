@@ -1,5 +1,5 @@
 -- The worked cases of running nested plans.
-use Rattle.std.proofs.Common.{◌≡◌, ℕ, [], ◌∷◌, length, refl, sym, subst, ap, ◌∙◌, arith}
+use Rattle.std.proofs.Common.{◌≡◌, ℕ, [], refl, arith}
 use Rattle.std.proofs.lemmas.List.Sorted.{IsPermutation-refl}
 use Rattle.std.specs.Int.{int_wrap}
 use Rattle.al_func.specs.declared.rex.Rex.TheVariants as R

@@ -10,7 +10,6 @@ use Rattle.hy_job.specs.declared.nested.NestedPlan.TheVariants as P
 use Rattle.hy_job.specs.Columns.{Row}
 use Rattle.hy_job.specs.Nested.{NAllows, n_width, is_chain, chain_rows}
 use Rattle.hy_job.specs.Sound.{NSound, AreSound, AreSoundAggs, item_exprs}
-use Rattle.hy_job.specs.RunLaws.{AreWide}
 use Rattle.hy_job.proofs.Chains.{chain-append, each_allowed, each_made, wide_at}
 use Rattle.hy_job.proofs.RowLaws.{upto}
 use Rattle.hy_nested.specs.Fitting.{AggregatesFit, Fits}

@@ -1,5 +1,4 @@
 use Rattle.std.proofs.Common.{sym, subst, ◌∙◌}
-use Rattle.hy_job.specs.declared.nested.NestedPlan.{NestedPlan}
 use Rattle.hy_job.specs.declared.nested.NestedPlan.TheVariants as P
 use Rattle.hy_job.specs.Nested.{NAllows}
 use Rattle.hy_nested.proofs.RunArms.{assign_reads, select_reads, unnest_reads, aggregate_reads}

@@ -1,10 +1,7 @@
-use Rattle.std.proofs.Common.{[], List, length, take, ap, sym, subst, ◌∙◌}
-use Rattle.std.specs.List.{All}
-use Rattle.std.proofs.lemmas.List.{take_all}
-use Rattle.al_agg.specs.declared.part.Part.{Part}
-use Rattle.hy_job.specs.Columns.{Row, agg_row}
+use Rattle.std.proofs.Common.{[], List, take, sym, subst, ◌∙◌}
+use Rattle.hy_job.specs.Columns.{Row}
 use Rattle.hy_job.specs.Nested.{chain_rows}
-use Rattle.hy_job.specs.Sound.{AreSoundAggs, NSound}
+use Rattle.hy_job.specs.Sound.{NSound}
 use Rattle.hy_job.specs.States.{AreStates}
 use Rattle.hy_job.proofs.Chains.{chain-none, wide_at}
 use Rattle.hy_job.proofs.StateLaws.{states_length}
@@ -29,7 +26,7 @@ pub loop-row-preserved : goal.loop-row-preserved
 loop-row-preserved c = record {
   each = c.add_rows.ensures.each;
   seen =
-    subst (λ (rows : List Row). AreStates c.args.made.now rows c.add_rows.new.states.items)
-    (chain_upto c.args.chain.now c.args.outer.now c.loop-row.row-index c.row-item.result c.as_slice.result.now c.loop-row-test.true c.row-item.is (c.as_slice.ensures ∙ c.in_ok-rows.ensures))
-    (c.in_ok-add_rows.ensures.added (chain_rows c.args.chain.now (take c.loop-row.row-index c.args.outer.now)) c.loop-row.invariant.seen);
+      subst (λ (rows : List Row). AreStates c.args.made.now rows c.add_rows.new.states.items)
+      (chain_upto c.args.chain.now c.args.outer.now c.loop-row.row-index c.row-item.result c.as_slice.result.now c.loop-row-test.true c.row-item.is (c.as_slice.ensures ∙ c.in_ok-rows.ensures))
+      (c.in_ok-add_rows.ensures.added (chain_rows c.args.chain.now (take c.loop-row.row-index c.args.outer.now)) c.loop-row.invariant.seen);
 }
