@@ -1,6 +1,5 @@
 use al_io::{MemSink, MemSource};
-use al_plan::Refused;
-use al_query::{CompileFault, Status, compile, plain_command};
+use al_query::{Status, compile, plain_command};
 use std::alloc::Global;
 use std::test::Fail;
 
@@ -39,11 +38,11 @@ fn answer(alloc: Global, plan: &str) -> Result<(Status, MemSink), Fail> {
     Ok((status, out))
 }
 
-/// The byte of the plan at which it is refused, where it is.
-fn refused_at(alloc: Global, plan: &str) -> Option<u32> {
+/// Why the plan is refused, as a user may be told; nothing where it isn't.
+fn refusal(alloc: Global, plan: &str) -> Result<String, Fail> {
     match compile(alloc, plan.as_bytes(), 4) {
-        Err(CompileFault::Refused(Refused { kind: _, place })) => Some(place),
-        _ => None,
+        Err(fault) => Ok(fault.to_string(alloc)?),
+        Ok(_) => Ok(String::new(alloc)),
     }
 }
 
@@ -79,7 +78,7 @@ fn a_department_that_ends_its_quote_is_refused(rt: HostRuntime) -> Result<(), Fa
     let (status, out) = answer(rt.alloc(), plan.as_str())?;
     assert_eq!(&rt; status.code(), 2);
     assert!(&rt; out.bytes().is_empty());
-    // the byte of the select, whose `eq` has three arguments
-    assert_eq!(&rt; refused_at(rt.alloc(), plan.as_str()), Some(123));
+    // the byte is that of the select, whose `eq` has three arguments
+    assert_eq!(&rt; refusal(rt.alloc(), plan.as_str())?.as_str(), "plan refused: WrongArity at 123");
     Ok(())
 }
