@@ -46,10 +46,10 @@ fn refusal(alloc: Global, plan: &str) -> Result<String, Fail> {
     }
 }
 
-/// How many activities the job on 4 partitions has.
-fn activities(alloc: Global, plan: &str) -> Option<usize> {
+/// How many times the job on 4 partitions has to end one activity before it begins another.
+fn blocks(alloc: Global, plan: &str) -> Option<usize> {
     match compile(alloc, plan.as_bytes(), 4) {
-        Ok(compiled) => Some(compiled.job.activities.len()),
+        Ok(compiled) => Some(compiled.job.blocks.len()),
         Err(_) => None,
     }
 }
@@ -67,8 +67,8 @@ fn a_question_is_answered(rt: HostRuntime) -> Result<(), Fail> {
 #[test]
 fn a_question_becomes_a_job(rt: HostRuntime) -> Result<(), Fail> {
     let plan = Question { department: "Y" }.plan(rt.alloc())?;
-    // scan, select, the parts of the sum, their sum, the result
-    assert_eq!(&rt; activities(rt.alloc(), plan.as_str()), Some(5));
+    // the parts of the sum are summed up as they come
+    assert_eq!(&rt; blocks(rt.alloc(), plan.as_str()), Some(0));
     Ok(())
 }
 
