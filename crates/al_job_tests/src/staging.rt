@@ -5,9 +5,10 @@ ghost use Rattle.std.specs.Prelude.{◌≡◌, []};
 use crate::texts::job;
 use al_value::List;
 use hy_job::{
-    Resting, Stage, driver_laws, job_cases, mailbox_laws, output_laws, record_cases, record_laws,
-    rest_laws, run_cases, stages, wire_laws,
+    Stage, driver_laws, job_cases, mailbox_laws, output_laws, record_cases, record_laws, run_cases,
+    stages, wire_laws,
 };
+use hy_rest::{Resting, rest_cases, rest_laws};
 use std::alloc::Global;
 use std::test::Fail;
 
@@ -70,6 +71,7 @@ impl Resting<u32, u32> for Passing {
 #[test]
 fn laws_are_called() {
     rest_laws::<u32, u32, Passing, Passing, Passing>();
+    rest_cases();
     output_laws();
     driver_laws();
     record_laws();

@@ -8,7 +8,8 @@ use Rattle.hy_job.specs.Columns.{Row, holds}
 use Rattle.hy_job.specs.Sound.{edges_from}
 use Rattle.hy_job.specs.Runs.{Taken, TaskPart, Receives, rows_at, with_more, sent_by}
 use Rattle.hy_job.specs.Cases.{act, is_text}
-use Rattle.hy_job.specs.Settled.{Open, Rows, Close, Take, IsFailed, has_closed, put_rows, taken_rows, signal_rows, given, is_fail}
+use Rattle.hy_rest.specs.Words.{Open, Rows, Close, put_rows, signal_rows, is_fail}
+use Rattle.hy_job.specs.Settled.{Take, IsFailed, has_closed, taken_rows, given}
 use Rattle.hy_job.specs.SettledCases.{take_first, checking, check_record, CheckFails}
 use Rattle.hy_job.proofs.Members.{by_cases, in_here, in_none, in_cases}
 

@@ -10,7 +10,8 @@ use Rattle.hy_job.specs.declared.job.Stage.{Stage}
 use Rattle.hy_job.specs.Columns.{Row, cut, holds}
 use Rattle.hy_job.specs.Sound.{edges_from}
 use Rattle.hy_job.specs.Runs.{IsSender, Receives, rows_at, sent_by}
-use Rattle.hy_job.specs.Settled.{Open, Rows, Fail, Close, WriterWord, Completed, Stopped, Check, Take, IsCompleted, IsFailed, HasWords, IsCaused, Settled, TakesFrom, taken_of, put_rows, is_fail}
+use Rattle.hy_rest.specs.Words.{Open, Rows, Fail, Close, WriterWord, put_rows, is_fail}
+use Rattle.hy_job.specs.Settled.{Completed, Stopped, Check, Take, IsCompleted, IsFailed, HasWords, IsCaused, Settled, TakesFrom, taken_of}
 use Rattle.hy_job.specs.Cases.{act, wire, stage, is_text}
 use Rattle.hy_job.specs.SettledCases.{checking, take_first, scan_record, NobodySends, NoneStopsAlone, after_check, FailStops, FailCompletesNone}
 use Rattle.hy_job.proofs.Members.{no_bool, in_none}

@@ -9,7 +9,8 @@ use Rattle.hy_job.specs.declared.job.Job.{Job}
 use Rattle.hy_job.specs.declared.job.Stage.{Stage}
 use Rattle.hy_job.specs.Columns.{Row, cut, dealt, part_of}
 use Rattle.hy_job.specs.Runs.{Taken, IsSender, Receives, rows_at}
-use Rattle.hy_job.specs.Settled.{WriterWord, Completed, Records, IsCompleted, IsFailed, HasWords, IsCaused, Settled, TakesFrom, taken_rows, taken_of, is_fail}
+use Rattle.hy_rest.specs.Words.{WriterWord, is_fail}
+use Rattle.hy_job.specs.Settled.{Completed, Records, IsCompleted, IsFailed, HasWords, IsCaused, Settled, TakesFrom, taken_rows, taken_of}
 use Rattle.hy_job.specs.Cases.{act, wire, stage}
 use Rattle.hy_job.specs.SettledCases.{hashing, word_of, hash_records, HashSettles}
 use Rattle.hy_job.proofs.Members.{no_bool, in_none}

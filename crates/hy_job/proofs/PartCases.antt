@@ -17,7 +17,8 @@ use Rattle.hy_job.specs.declared.job.Kind.TheVariants as K
 use Rattle.hy_job.specs.Columns.{column, Row, cut, holds, state_row}
 use Rattle.hy_job.specs.Sound.{width_in, edges_from, edges_at}
 use Rattle.hy_job.specs.Runs.{Taken, TaskPart, MayCome, SendsBy, Receives, rows_at, sent_by}
-use Rattle.hy_job.specs.Settled.{Open, Rows, Close, IsCompleted, taken_rows, is_fail}
+use Rattle.hy_rest.specs.Words.{Open, Rows, Close, is_fail}
+use Rattle.hy_job.specs.Settled.{IsCompleted, taken_rows}
 use Rattle.hy_job.specs.Cases.{int, row_of, is_text, act}
 use Rattle.hy_job.specs.SettledCases.{listing, checking}
 use Rattle.hy_job.specs.RunCases.{passing_record, CheckPasses, took_first, none_ended, PartIsFront, totalling, counted_none, RowEndsPart, counting_none, RowsComeFitting}

@@ -5,7 +5,7 @@ use Rattle.std.specs.List.Sorted.{IsPermutation}
 use Rattle.std.proofs.lemmas.List.Elements.{All-from_recursion}
 use Rattle.std.proofs.lemmas.List.Sorted.{length_permutation}
 use Rattle.hy_job.specs.Columns.{Row, key_of, Group, rows_in, AreStretches, Takes, Interleaves}
-use Rattle.hy_job.specs.Settled.{Close, WriterWord}
+use Rattle.hy_rest.specs.Words.{Close, WriterWord}
 use Rattle.hy_job.specs.declared.job.Stage.{Stage}
 use Rattle.hy_job.specs.Cases.{row_of, stage}
 use Rattle.hy_job.specs.RunCases.{LimitSkips, UnionHasBoth, ScanIsDealt, StretchesHaveRows, NoneOfNone, WordsEnd, WordsMay, FirstGathers, RaisedInStage, HashHasTwoBoxes, MergeHasTwoBoxes, ThirdTask}

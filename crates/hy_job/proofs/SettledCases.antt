@@ -10,7 +10,8 @@ use Rattle.hy_job.specs.Columns.{Row, cut, dealt}
 use Rattle.hy_job.specs.Sound.{edges_from}
 use Rattle.hy_job.specs.Runs.{Taken, Receives, IsSender, rows_at, sent_by}
 use Rattle.hy_job.specs.Cases.{act, wire, stage}
-use Rattle.hy_job.specs.Settled.{Open, Rows, Close, WriterWord, Completed, IsCompleted, IsFailed, HasWords, IsCaused, EachTask, TakesFrom, Settled, taken_rows, taken_of, put_rows, is_fail}
+use Rattle.hy_rest.specs.Words.{Open, Rows, Close, WriterWord, put_rows, is_fail}
+use Rattle.hy_job.specs.Settled.{Completed, IsCompleted, IsFailed, HasWords, IsCaused, EachTask, TakesFrom, Settled, taken_rows, taken_of}
 use Rattle.hy_job.specs.SettledCases.{listing, scan_record, result_record, listing_records, ListingSettles}
 use Rattle.hy_job.proofs.Members.{no_bool, in_none, in_cases}
 

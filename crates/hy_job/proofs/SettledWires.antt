@@ -11,7 +11,8 @@ use Rattle.hy_job.specs.Sound.{SoundJob, edges_from, may_leave}
 use Rattle.hy_job.specs.Stages.{activities_in}
 use Rattle.hy_job.specs.Runs.{Taken, IsSender, rows_of, sent_over, sent_by}
 use Rattle.hy_job.specs.Exchange.{AreSent}
-use Rattle.hy_job.specs.Settled.{Take, Records, Settled, MadeBy, SettledIsSent, taken_rows, taken_of, put_rows, signal_rows}
+use Rattle.hy_rest.specs.Words.{put_rows, signal_rows}
+use Rattle.hy_job.specs.Settled.{Take, Records, Settled, MadeBy, SettledIsSent, taken_rows, taken_of}
 use Rattle.hy_job.proofs.Members.{by_cases, in_cases, in_none, in_filter}
 use Rattle.hy_job.proofs.RunRows.{all_flat_map}
 use Rattle.hy_job.proofs.Boxes.{nat_is, activity_at}

@@ -12,7 +12,8 @@ use Rattle.hy_job.specs.declared.job.Job.{Job}
 use Rattle.hy_job.specs.Columns.{Row, keys_cmp, Interleaves}
 use Rattle.hy_job.specs.Sound.{edges_from}
 use Rattle.hy_job.specs.Runs.{IsSender, SendsBy}
-use Rattle.hy_job.specs.Settled.{WriterWord, Completed, Take, Records, IsCompleted, IsFailed, HasWords, IsCaused, Settled, TakesFrom, taken_of, is_fail}
+use Rattle.hy_rest.specs.Words.{WriterWord, is_fail}
+use Rattle.hy_job.specs.Settled.{Completed, Take, Records, IsCompleted, IsFailed, HasWords, IsCaused, Settled, TakesFrom, taken_of}
 use Rattle.hy_job.specs.Cases.{act, wire, block, row_of, by_first, sorting}
 use Rattle.hy_job.specs.SettledCases.{word_of, row_at, sort_records, sort_stages, SortSettles, SortIsHanded}
 use Rattle.hy_job.proofs.Members.{no_bool}

@@ -14,7 +14,8 @@ use Rattle.hy_job.specs.Columns.{Row, holds}
 use Rattle.hy_job.specs.Sound.{SoundJob, edges_at, edges_into, edges_from, may_leave}
 use Rattle.hy_job.specs.Stages.{IsPart, AreNext, activities_in}
 use Rattle.hy_job.specs.Runs.{SendsBy, IsSender, IsReceiver, ReceivesOver, rows_at}
-use Rattle.hy_job.specs.Settled.{Outcome, Completed, Stopped, Check, Store, NoMemory, Take, Records, Settled, IsPassed, IsCompleted, taken_rows, taken_of, is_fail, is_fault, IsFaultBeside, IsRaisedBeside, FailsAtLast, PassesAtLast, StopsByFaults, StopsBy}
+use Rattle.hy_rest.specs.Words.{is_fail}
+use Rattle.hy_job.specs.Settled.{Outcome, Completed, Stopped, Check, Store, NoMemory, Take, Records, Settled, IsPassed, IsCompleted, taken_rows, taken_of, is_fault, IsFaultBeside, IsRaisedBeside, FailsAtLast, PassesAtLast, StopsByFaults, StopsBy}
 use Rattle.hy_job.proofs.Members.{no_bool, in_here, in_none, in_cases, in_filter, from_filter, nat_same}
 use Rattle.hy_job.proofs.Pairs.{in_map, from_flat_map, in_flat_map}
 use Rattle.hy_job.proofs.Boxes.{is_nat, nat_is, activity_at}

@@ -7,7 +7,8 @@ use Rattle.std.proofs.lemmas.List.Sorted.{IsPermutation-refl}
 use Rattle.hy_job.specs.declared.nested.AggRex.TheVariants as C
 use Rattle.hy_job.specs.declared.job.Kind.TheVariants as K
 use Rattle.hy_job.specs.Columns.{Row, holds, keys_cmp, state_row}
-use Rattle.hy_job.specs.Settled.{Signal, Open, Rows, Fail, Close, IsFailedSoFar, IsLiveSoFar, is_fail}
+use Rattle.hy_rest.specs.Words.{Signal, Open, Rows, Fail, Close, is_fail}
+use Rattle.hy_job.specs.Settled.{IsFailedSoFar, IsLiveSoFar}
 use Rattle.hy_job.specs.Cases.{row_of, is_text, act}
 use Rattle.hy_job.specs.SettledCases.{checking, take_first}
 use Rattle.hy_job.specs.RunCases.{InputsApart, LimitGoesOn, EmitsWhatIsLeft, LastRowOnce, failing_record, FailedSoFar, passing_record, LiveSoFar}
@@ -59,7 +60,7 @@ module _ (set name text : List ℕ) (row : Row) where
   no_fail_owed : IsFailedSoFar (checking set name text) (act 1 (K.Check name (is_text text)) 2) 0 (failing_record name row) (λ r. Close ∷ []) → ⊥
   no_fail_owed h = by (h.put 0) (h.ends 0 refl)
     where
-      by : (word : List Signal) → Open ∷ Close ∷ [] ≡ word ++ Fail ∷ Close ∷ [] → ⊥
+      by : (word : List (Signal Row)) → Open ∷ Close ∷ [] ≡ word ++ Fail ∷ Close ∷ [] → ⊥
       by [] e = cc
       by (x ∷ []) e = cc
       by (x ∷ y ∷ []) e = cc

@@ -5,7 +5,7 @@ use Rattle.hy_job.specs.declared.job.Kind.{Kind}
 use Rattle.hy_job.specs.declared.job.Kind.TheVariants as K
 use Rattle.hy_job.specs.Columns.{Row, dealt, keys_cmp, state_row, joined}
 use Rattle.hy_job.specs.Runs.{AreJoined, IsGroupOf, Output, is_free}
-use Rattle.hy_job.specs.Rest.{AnyOrder}
+use Rattle.hy_rest.specs.Rest.{AnyOrder}
 
 -- the rows of an input, of those that a driver takes
 abbrev pub received_of : List (ℕ × Row) → ℕ → List Row

@@ -6,7 +6,6 @@ pub mod Stages
 pub mod Finding
 pub mod Runs
 pub mod Exchange
-pub mod Rest
 pub mod Settled
 pub mod Boxes
 pub mod Drivers
@@ -14,3 +13,7 @@ pub mod RunLaws
 pub mod Cases
 pub mod SettledCases
 pub mod RunCases
+pub mod Opens
+pub mod States
+pub mod Chains
+pub mod StateCases

@@ -13,7 +13,8 @@ use Rattle.hy_job.specs.declared.job.Job.{Job}
 use Rattle.al_agg.specs.declared.agg.Agg.TheVariants as A
 use Rattle.hy_job.specs.Columns.{Row, cut, holds, state_row, Group, AreStretches}
 use Rattle.hy_job.specs.Runs.{Took, Put, Output, IsReceiver, TaskPart}
-use Rattle.hy_job.specs.Settled.{Open, Rows, Fail, Close, WriterWord, IsWordSoFar, IsCompleted, IsFailedSoFar, IsLiveSoFar, TaskRecord, Records, Completed, IsRaisedBeside}
+use Rattle.hy_rest.specs.Words.{Open, Rows, Fail, Close, WriterWord, IsWordSoFar}
+use Rattle.hy_job.specs.Settled.{IsCompleted, IsFailedSoFar, IsLiveSoFar, TaskRecord, Records, Completed, IsRaisedBeside}
 use Rattle.al_value.specs.declared.settings.SortKey.{SortKey}
 use Rattle.hy_job.specs.Drivers.{Left, received_of, driver_out}
 use Rattle.hy_job.specs.Boxes.{StageBox, boxes_of, box_to, task_of, task_at}
@@ -52,11 +53,11 @@ NoneOfNone = (keys : List ℕ) (inner : NestedPlan) (arg : GroupArg) (out : List
 
 -- what no sender puts: rows behind a Fail, a second Open, a second Close
 abbrev pub WordsEnd : Type 0
-WordsEnd = (rows : List Row) → (WriterWord (Open ∷ Fail ∷ Rows rows ∷ Close ∷ []) → ⊥) × (WriterWord (Open ∷ Open ∷ Close ∷ []) → ⊥) × (WriterWord (Open ∷ Close ∷ Close ∷ []) → ⊥)
+WordsEnd = (rows : List Row) → (WriterWord {A = Row} (Open ∷ Fail ∷ Rows rows ∷ Close ∷ []) → ⊥) × (WriterWord {A = Row} (Open ∷ Open ∷ Close ∷ []) → ⊥) × (WriterWord {A = Row} (Open ∷ Close ∷ Close ∷ []) → ⊥)
 
 -- what a sender may put: rows before a Fail, and as a beginning an Open
 abbrev pub WordsMay : Type 0
-WordsMay = (rows : List Row) → WriterWord (Open ∷ Rows rows ∷ Close ∷ []) × WriterWord (Open ∷ Rows rows ∷ Fail ∷ Close ∷ []) × IsWordSoFar (Open ∷ [])
+WordsMay = (rows : List Row) → WriterWord {A = Row} (Open ∷ Rows rows ∷ Close ∷ []) × WriterWord {A = Row} (Open ∷ Rows rows ∷ Fail ∷ Close ∷ []) × IsWordSoFar {A = Row} (Open ∷ [])
 
 -- ---- who receives, and who raised
 

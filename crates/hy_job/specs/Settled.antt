@@ -2,6 +2,7 @@
 use Rattle.std.specs.Prelude.{◌≡◌, ◌≢◌, ◌⊎◌, ◌<◌, ℕ, nat_eq, Bool, true, false, ◌&&◌, List, [], ◌∷◌, ◌++◌, map, filter}
 use Rattle.std.specs.List.{flat_map, list_any, All, AllByRecursion, Contains}
 use Rattle.std.specs.List.Sorted.{IsPermutation}
+use Rattle.hy_rest.specs.Words.{Signal, signal_rows, put_rows, is_fail, is_close, Fail, Close, WriterWord}
 use Rattle.hy_job.specs.declared.job.Kind.{Kind}
 use Rattle.hy_job.specs.declared.job.Kind.TheVariants as K
 use Rattle.hy_job.specs.declared.job.Activity.{Activity}
@@ -14,48 +15,6 @@ use Rattle.hy_job.specs.Sound.{SoundJob}
 use Rattle.hy_job.specs.Stages.{AreNext, activities_in}
 use Rattle.hy_job.specs.Exchange.{AreSent}
 use Rattle.hy_job.specs.Runs.{Taken, Took, TaskRun, TaskPart, IsReceiver, IsSender, rows_at}
-
--- ---- what goes through a mailbox
-
-pub data Signal : Type 0 where
-  Open : Signal
-  Rows : List Row → Signal
-  Fail : Signal
-  Close : Signal
-
-abbrev pub signal_rows : Signal → List Row
-signal_rows Open = []
-signal_rows (Rows rows) = rows
-signal_rows Fail = []
-signal_rows Close = []
-
-abbrev pub is_fail : Signal → Bool
-is_fail Open = false
-is_fail (Rows rows) = false
-is_fail Fail = true
-is_fail Close = false
-
-abbrev pub is_close : Signal → Bool
-is_close Open = false
-is_close (Rows rows) = false
-is_close Fail = false
-is_close Close = true
-
--- any number of rows, and then Close, or Fail and Close
-abbrev pub IsWordOnceOpen : List Signal → Type 0
-IsWordOnceOpen (Rows rows ∷ more) = IsWordOnceOpen more
-IsWordOnceOpen (Close ∷ []) = Unit {0}
-IsWordOnceOpen (Fail ∷ Close ∷ []) = Unit {0}
-IsWordOnceOpen _ = ⊥
-
--- what a sender puts into a mailbox from its beginning to its end
-unfoldable pub WriterWord : List Signal → Type 0
-WriterWord (Open ∷ more) = IsWordOnceOpen more
-WriterWord _ = ⊥
-
--- what a sender has put that has perhaps not ended
-abbrev pub IsWordSoFar : List Signal → Type 0
-IsWordSoFar word = (rest : List Signal) × WriterWord (word ++ rest)
 
 -- ---- records
 
@@ -72,14 +31,14 @@ pub data Outcome : Type 0 where
 pub record Take : Type 0 where
   pub input : ℕ
   pub sender : ℕ
-  pub signal : Signal
+  pub signal : Signal Row
 
 -- what a task did from its beginning to its end
 pub record TaskRecord : Type 0 where
   -- the signals that it took, in the order in which they came
   pub took : List Take
   -- the signals that it put for each receiving partition
-  pub put : ℕ → List Signal
+  pub put : ℕ → List (Signal Row)
   -- the rows that a scan was given
   pub scanned : List Row
   pub handed : List Row
@@ -89,7 +48,7 @@ pub record TaskRecord : Type 0 where
   pub outcome : Outcome
 
 -- what was taken of one sender at an input
-abbrev pub taken_of : ℕ → ℕ → List Take → List Signal
+abbrev pub taken_of : ℕ → ℕ → List Take → List (Signal Row)
 taken_of input sender took = map (λ t. t.signal) (filter (λ t. nat_eq t.input input && nat_eq t.sender sender) took)
 
 abbrev pub taken_rows : List Take → List Taken
@@ -101,9 +60,6 @@ has_closed took input sender = list_any (λ t. is_close t.signal && (nat_eq t.in
 
 abbrev pub TakesNoFail : List Take → Type 0
 TakesNoFail = All (λ t. is_fail t.signal ≡ false)
-
-abbrev pub put_rows : List Signal → List Row
-put_rows = flat_map signal_rows
 
 -- what a task was given, up to this of what it took
 abbrev pub given : TaskRecord → List Take → Took
@@ -134,14 +90,14 @@ HasCause kind (Check name) rows = IsFaulty kind name rows
 HasCause kind _ rows = Unit {0}
 
 -- it did a part of a run, and then told each receiver that it failed, where it puts these whole words
-pub record FailsWith (job : Job) (a : Activity) (j : ℕ) (r : TaskRecord) (words : ℕ → List Signal) : Type 0 where
+pub record FailsWith (job : Job) (a : Activity) (j : ℕ) (r : TaskRecord) (words : ℕ → List (Signal Row)) : Type 0 where
   -- what it took before its failure, and behind it
   pub before : List Take
   pub behind : List Take
   pub took : r.took ≡ before ++ behind
   pub takes_no_fail : TakesNoFail before
   -- what it put before its failure
-  pub put : ℕ → List Signal
+  pub put : ℕ → List (Signal Row)
   pub ends : (to : ℕ) → IsReceiver job a.number j to → words to ≡ put to ++ Fail ∷ Close ∷ []
   pub part : TaskPart job a j (has_closed before) (given r before) (record { to = λ to. put_rows (put to); on = r.hands_on })
   pub cause : HasCause a.kind r.outcome (rows_at 0 (taken_rows before))
@@ -153,7 +109,7 @@ IsFailed job a j r = FailsWith job a j r r.put
 -- ---- tasks that have not ended
 
 -- a failed task as far as it has come, which still owes this to each receiver
-abbrev pub IsFailedSoFar : Job → Activity → ℕ → TaskRecord → (ℕ → List Signal) → Type 0
+abbrev pub IsFailedSoFar : Job → Activity → ℕ → TaskRecord → (ℕ → List (Signal Row)) → Type 0
 IsFailedSoFar job a j r owed = FailsWith job a j r (λ to. r.put to ++ owed to)
 
 -- one that has not failed, as far as it has come, which has still to work on these of the rows that it took
@@ -166,7 +122,7 @@ pub record IsLiveSoFar (job : Job) (a : Activity) (j : ℕ) (r : TaskRecord) (le
 
 -- who owes nothing any more has failed
 abbrev pub FailsAtLast : Type 0
-FailsAtLast = (job : Job) (a : Activity) (j : ℕ) (r : TaskRecord) (owed : ℕ → List Signal) → ((to : ℕ) → IsReceiver job a.number j to → owed to ≡ []) → IsFailedSoFar job a j r owed → IsFailed job a j r
+FailsAtLast = (job : Job) (a : Activity) (j : ℕ) (r : TaskRecord) (owed : ℕ → List (Signal Row)) → ((to : ℕ) → IsReceiver job a.number j to → owed to ≡ []) → IsFailedSoFar job a j r owed → IsFailed job a j r
 
 -- who has nothing left to work on passed all that it took
 abbrev pub PassesAtLast : Type 0

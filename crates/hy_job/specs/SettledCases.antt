@@ -6,7 +6,8 @@ use Rattle.hy_job.specs.declared.job.Job.{Job}
 use Rattle.hy_job.specs.declared.job.Stage.{Stage}
 use Rattle.hy_job.specs.Columns.{Row, cut, dealt, holds, part_of}
 use Rattle.hy_job.specs.Cases.{act, wire, block, stage, row_of, sorting, is_text}
-use Rattle.hy_job.specs.Settled.{Signal, Open, Rows, Fail, Close, Outcome, Completed, Stopped, Check, IsFailed, Take, TaskRecord, Records, Settled}
+use Rattle.hy_rest.specs.Words.{Signal, Open, Rows, Fail, Close}
+use Rattle.hy_job.specs.Settled.{Outcome, Completed, Stopped, Check, IsFailed, Take, TaskRecord, Records, Settled}
 
 -- on one partition, the first column of a dataset
 abbrev pub listing : List ℕ → Job
@@ -17,7 +18,7 @@ listing set = record {
   partitions = 1;
 }
 
-abbrev pub take_first : Signal → Take
+abbrev pub take_first : Signal Row → Take
 take_first signal = record { input = 0; sender = 0; signal = signal }
 
 -- the scan was given these rows, and put them
@@ -133,14 +134,14 @@ hashing set = record {
   partitions = 2;
 }
 
-abbrev pub word_of : List Row → List Signal
+abbrev pub word_of : List Row → List (Signal Row)
 word_of rows = Open ∷ Rows rows ∷ Close ∷ []
 
-abbrev pub take_of : ℕ → Signal → Take
+abbrev pub take_of : ℕ → Signal Row → Take
 take_of sender signal = record { input = 0; sender = sender; signal = signal }
 
 -- a task that completed
-abbrev pub done : List Take → (ℕ → List Signal) → List Row → List Row → List Row → TaskRecord
+abbrev pub done : List Take → (ℕ → List (Signal Row)) → List Row → List Row → List Row → TaskRecord
 done took put scanned handed on = record { took = took; put = put; scanned = scanned; handed = handed; hands_on = on; raised = false; saw = false; outcome = Completed }
 
 -- the scans put these rows for each receiver; the results took them of both, those of the second partition first

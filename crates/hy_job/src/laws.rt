@@ -8,41 +8,6 @@ ghost use Rattle.hy_job.specs.RunLaws.{ProbesMove, RunsFit, RunsHaveValues};
 ghost use Rattle.hy_job.specs.Runs.{FreeOutputs};
 ghost use Rattle.hy_job.specs.Settled.{FailsAtLast, PassesAtLast, SettledIsSent, StopsByFaults};
 ghost use Rattle.hy_job.specs.SettledCases.{CheckFails, FailCompletesNone, FailStops, HashSettles, ListingSettles, NobodySends, NoneStopsAlone, SortIsHanded, SortSettles};
-ghost use Rattle.hy_job.specs.Rest.{ContinuesThen, FreeAlive, FreeContinues, FreeFinished, HeldAlive, HeldContinues, HeldFinished, IdleContinues, InOrderAlive, InOrderContinues, InOrderFinished, NoneIsOpen};
-
-/// The present state of a task, or of a part of one, as the laws see it.
-pub trait Resting<F, A> {
-    /// What may still be taken.
-    ghost may: { Self → List F → Type 0 };
-
-    /// The output for what is taken.
-    ghost out: { Self → List F → List A → Type 0 };
-
-    /// The lists of what was taken for which it stands, where it does not keep them.
-    ghost stands: { Self → List F → Type 0 };
-
-    /// What it may still put for what is still to be taken.
-    ghost rest: { Self → List F → List A → Type 0 };
-}
-
-/// The laws of both forms of what may still be put: what a step has to show of what is owed and
-/// held, how steps are put together, that a step that changes nothing leaves it, when there is
-/// something to put, and when nothing is left. It does nothing: its clauses speak of the states
-/// before, between and after two steps.
-pub fn rest_laws<F, A, Old: Resting<F, A>, New: Resting<F, A>, Last: Resting<F, A>>()
-    ensures in_order { (old : Old) (new : New) → InOrderContinues (Old.may old) (New.may new) (Old.out old) (New.out new) }
-    ensures free { (old : Old) (new : New) → FreeContinues (Old.may old) (New.may new) (Old.out old) (New.out new) }
-    ensures for_each { (old : Old) (new : New) → HeldContinues (Old.may old) (New.may new) (Old.stands old) (New.stands new) (Old.out old) (New.out new) }
-    ensures then_on { (old : Old) (new : New) (last : Last) → ContinuesThen (Old.rest old) (New.rest new) (Last.rest last) }
-    ensures idle { (old : Old) → IdleContinues (Old.rest old) }
-    ensures in_order_alive { (old : Old) → InOrderAlive (Old.may old) (Old.out old) }
-    ensures free_alive { (old : Old) → FreeAlive (Old.may old) (Old.out old) }
-    ensures for_each_alive { (old : Old) → HeldAlive (Old.may old) (Old.stands old) (Old.out old) }
-    ensures finished { (last : Last) → InOrderFinished (Last.may last) (Last.out last) }
-    ensures free_finished { (last : Last) → FreeFinished (Last.may last) (Last.out last) }
-    ensures for_each_finished { (last : Last) → HeldFinished (Last.may last) (Last.stands last) (Last.out last) }
-    ensures none_open { NoneIsOpen A }
-{}
 
 /// The rows of an activity without an order of its own may come in any order, those of a probe
 /// whatever the order of what it was handed; and the rows that a task of a sound job makes have as
