@@ -1,10 +1,27 @@
+ghost use Rattle.std.specs.Prelude.{◌≡◌, ◌≢◌, ◌<◌, [], IfOk};
+ghost use Rattle.hy_store.specs.Runs.{IsLive, HaveShape};
+
 use crate::frames::one;
 use crate::trips::comes_back;
 use al_value::Failed;
-use hy_frame::Bank;
+use hy_frame::{Bank, Frame};
 use hy_store::{FolderShelf, RunStore, Shelf, StoreFault};
 use std::fs;
 use std::test::Fail;
+
+/// The file of the first run of the first store.
+const FILE: &str = "algebricks-runs/0-0";
+
+/// A new run with a frame.
+fn run_of<S: RunStore>(store: &mut S, frame: &Frame) -> Result<u32, StoreFault>
+    requires { frame.now.rows ≢ [] }
+    ensures live { IfOk result (λ run. IsLive (S.runs store.new) run) }
+    ensures count { IfOk result (λ run. (S.runs store.new).count run ≡ 1) }
+{
+    let run = store.create()?;
+    store.append_frame(run, frame)?;
+    Ok(run)
+}
 
 #[test]
 fn keeps_runs(rt: HostRuntime) -> Result<(), Fail> {
@@ -22,9 +39,6 @@ fn keeps_runs(rt: HostRuntime) -> Result<(), Fail> {
     assert!(rt; again);
     shelf.take_back(store);
     assert_eq!(rt; shelf.made(), 2);
-    bank.give(ann);
-    bank.give(null);
-    bank.give(into);
     Ok(())
 }
 
@@ -33,49 +47,38 @@ fn a_run_is_a_file(rt: HostRuntime) -> Result<(), Fail> {
     let alloc = rt.alloc();
     let mut bank = Bank::new(256, 1);
     let ann = one(alloc, &mut bank, b"\x04Ann")?;
+    let mut whole = Vec::new(alloc);
+    whole.extend_from_slice(b"\x00\x00\x01\x00")?;
+    whole.extend_from_slice(ann.bytes())?;
     let mut shelf = FolderShelf::new(&rt, alloc);
     let mut store = shelf.open_store()?;
-    let run = store.create()?;
-    store.append_frame(run, &ann)?;
-    store.append_frame(run, &ann)?;
-    let mut whole = Vec::new(alloc);
-    for _ in 0..2 {
-        whole.extend_from_slice(b"\x00\x00\x01\x00")?;
-        whole.extend_from_slice(ann.bytes())?;
-    }
-    let file = fs::read(&rt, "algebricks-runs/0-0")?;
+    let run = run_of(&mut store, &ann)?;
+    let file = fs::read(&rt, FILE)?;
     assert_eq!(rt; file.as_slice(), whole.as_slice());
     assert_eq!(rt; store.remove(run), Ok(()));
-    assert!(rt; !fs::exists(&rt, "algebricks-runs/0-0")?);
+    assert!(rt; !fs::exists(&rt, FILE)?);
     shelf.take_back(store);
-    bank.give(ann);
     Ok(())
 }
 
 #[test]
 fn stores_beside_each_other(rt: HostRuntime) -> Result<(), Fail> {
     let alloc = rt.alloc();
-    let mut bank = Bank::new(256, 3);
+    let mut bank = Bank::new(256, 2);
     let ann = one(alloc, &mut bank, b"\x04Ann")?;
     let null = one(alloc, &mut bank, b"\x00")?;
-    let mut into = one(alloc, &mut bank, b"\x01")?;
     let mut shelf = FolderShelf::new(&rt, alloc);
     let mut first = shelf.open_store()?;
     let mut second = shelf.open_store()?;
-    let one_run = first.create()?;
-    let other_run = second.create()?;
-    first.append_frame(one_run, &ann)?;
-    second.append_frame(other_run, &null)?;
-    first.read_frame(one_run, 0, &mut into)?;
-    assert_eq!(rt; into.bytes(), ann.bytes());
+    run_of(&mut first, &ann)?;
+    run_of(&mut second, &null)?;
+    let file = fs::read(&rt, FILE)?;
+    let other = fs::read(&rt, "algebricks-runs/1-0")?;
+    assert!(rt; file.ends_with(ann.bytes()));
+    assert!(rt; other.ends_with(null.bytes()));
     shelf.take_back(first);
-    second.read_frame(other_run, 0, &mut into)?;
-    assert_eq!(rt; into.bytes(), null.bytes());
     shelf.take_back(second);
     assert_eq!(rt; shelf.made(), 2);
-    bank.give(ann);
-    bank.give(null);
-    bank.give(into);
     Ok(())
 }
 
@@ -85,8 +88,8 @@ fn a_folder_that_is_a_file(rt: HostRuntime) -> Result<(), Fail> {
     let mut shelf = FolderShelf::new(&rt, rt.alloc());
     let mut store = shelf.open_store()?;
     assert_eq!(rt; store.create(), Err(StoreFault::Failed));
-    assert_eq!(rt; store.made(), 0);
     shelf.take_back(store);
+    assert_eq!(rt; shelf.made(), 0);
     Ok(())
 }
 
@@ -100,11 +103,32 @@ fn a_folder_that_is_gone(rt: HostRuntime) -> Result<(), Fail> {
     let run = store.create()?;
     fs::remove_dir_all(&rt, "algebricks-runs")?;
     assert_eq!(rt; store.append_frame(run, &ann), Err(StoreFault::Failed));
-    assert_eq!(rt; store.frames(run), 0);
     assert_eq!(rt; store.remove(run), Err(Failed));
     shelf.take_back(store);
-    bank.give(ann);
     Ok(())
+}
+
+/// What reading a run's first frame answers once its file was made this.
+fn damaged<S: RunStore>(
+    rt: &HostRuntime,
+    store: &mut S,
+    run: u32,
+    file: &[u8],
+    into: &mut Frame,
+) -> Result<Result<(), StoreFault>, Fail>
+    requires live { IsLive (S.runs store.old) run }
+    requires some { 0 < (S.runs store.old).count run }
+    requires shape { HaveShape (S.runs store.old) run into.old.arity into.old.unit }
+    ensures runs { S.runs store.new ≡ S.runs store.old }
+    ensures into { (into.new.arity ≡ into.old.arity) × (into.new.unit ≡ into.old.unit) }
+{
+    fs::write(rt, FILE, file)?;
+    Ok(store.read_frame(run, 0, into))
+}
+
+/// The first bytes, as many of these as there are.
+fn front(bytes: &[u8], most: usize) -> &[u8] {
+    &bytes[..most.min(bytes.len())]
 }
 
 #[test]
@@ -115,27 +139,19 @@ fn a_damaged_run(rt: HostRuntime) -> Result<(), Fail> {
     let mut into = one(alloc, &mut bank, b"\x01")?;
     let mut shelf = FolderShelf::new(&rt, alloc);
     let mut store = shelf.open_store()?;
-    let run = store.create()?;
-    store.append_frame(run, &ann)?;
-    let whole = fs::read(&rt, "algebricks-runs/0-0")?;
-    if whole.len() != 260 {
-        return Err(Fail::from("no frame of 256 bytes"));
-    }
-    // Cut off in the frame and in its length, a frame that isn't one, and another length.
-    let cut = &whole[..100];
-    let short = &whole[..3];
+    let run = run_of(&mut store, &ann)?;
+    let whole = fs::read(&rt, FILE)?;
+    // Cut off in the frame and in its length, empty, another length, and a frame that isn't one.
     let zeros = vec![in alloc; 0u8; 260]?;
-    for damaged in [cut, short, b"", &zeros] {
-        fs::write(&rt, "algebricks-runs/0-0", damaged)?;
-        let read = store.read_frame(run, 0, &mut into);
-        assert_eq!(rt; read, Err(StoreFault::Failed), "{}", damaged.len());
-        assert_eq!(rt; into.field(0, 0), b"\x01".as_slice());
+    let mut ones = vec![in alloc; 1u8; 260]?;
+    ones[..4].copy_from_slice(b"\x00\x00\x01\x00");
+    for file in [front(&whole, 100), front(&whole, 3), b"", &zeros, &ones] {
+        let read = damaged(&rt, &mut store, run, file, &mut into)?;
+        assert_eq!(rt; read, Err(StoreFault::Failed), "{}", file.len());
     }
-    fs::write(&rt, "algebricks-runs/0-0", whole.as_slice())?;
-    store.read_frame(run, 0, &mut into)?;
+    let read = damaged(&rt, &mut store, run, &whole, &mut into)?;
+    assert_eq!(rt; read, Ok(()));
     assert_eq!(rt; into.bytes(), ann.bytes());
     shelf.take_back(store);
-    bank.give(ann);
-    bank.give(into);
     Ok(())
 }

@@ -1,5 +1,5 @@
 //! What any store does, in memory or in a folder.
-ghost use Rattle.std.specs.Prelude.{◌≡◌, ◌≢◌, ◌+◌, [], IfOk, OnOk, OnErr};
+ghost use Rattle.std.specs.Prelude.{◌≡◌, ◌≢◌, [], IfOk};
 ghost use Rattle.hy_store.specs.Runs.{IsLive, HaveShape};
 
 use hy_frame::Frame;
@@ -20,7 +20,7 @@ fn run_of<S: RunStore>(store: &mut S, one: &Frame, two: &Frame) -> Result<u32, S
     Ok(run)
 }
 
-/// Whether a run's two frames are read back, in any order and again, and the run is removed.
+/// Whether a run's two frames are read back, the last one first, and the run is removed.
 pub(crate) fn comes_back<S: RunStore>(
     store: &mut S,
     one: &Frame,
@@ -41,4 +41,23 @@ pub(crate) fn comes_back<S: RunStore>(
     let first = into.bytes() == one.bytes();
     store.remove(run)?;
     Ok(counted && last && first)
+}
+
+/// Makes a run, puts a frame to it, reads it and removes the run. How many of these four calls were served before one
+/// wasn't.
+pub(crate) fn served<S: RunStore>(store: &mut S, frame: &Frame, into: &mut Frame) -> u64
+    requires holds { frame.now.rows ≢ [] }
+    requires into { (into.old.arity ≡ frame.now.arity) × (into.old.unit ≡ frame.now.unit) }
+    ensures into { (into.new.arity ≡ into.old.arity) × (into.new.unit ≡ into.old.unit) }
+{
+    let Ok(run) = store.create() else {
+        return 0;
+    };
+    if store.append_frame(run, frame).is_err() {
+        return 1;
+    }
+    if store.read_frame(run, 0, into).is_err() {
+        return 2;
+    }
+    if store.remove(run).is_err() { 3 } else { 4 }
 }
