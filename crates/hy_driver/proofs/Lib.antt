@@ -1,0 +1,5 @@
+pub mod Values
+pub mod Turns
+pub mod Forms
+pub mod Passing
+pub mod Keeping

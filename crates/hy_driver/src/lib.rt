@@ -1,0 +1,14 @@
+//! What an operator is: a driver, its calls, what they promise, and how it is ended.
+#![tactic(auto)]
+
+mod driver;
+mod handed;
+mod keep;
+mod pass;
+mod phase;
+
+pub use driver::Driver;
+pub use handed::{Handed, HandsOn};
+pub use keep::KeepRows;
+pub use pass::PassRows;
+pub use phase::Phase;
