@@ -1,7 +1,8 @@
 -- Steps of drivers whose rest has one of the forms.
-use Rattle.std.proofs.Common.{◌≡◌, ◌==◌, ℕ, Bool, true, false, true≢false, List, [], ◌∷◌, ◌++◌, map, refl, sym, subst, ◌∙◌, inl, inr, append-nil, Option, None}
+use Rattle.std.proofs.Common.{◌↔◌, ◌≡◌, ◌==◌, ℕ, Bool, true, false, true≢false, List, [], ◌∷◌, ◌++◌, map, refl, sym, subst, ◌∙◌, inl, inr, append-nil, Option, None}
 use Rattle.std.proofs.lemmas.Bool.{cases_Bool}
 use Rattle.std.specs.List.Sorted.{IsPermutation}
+use Rattle.std.proofs.lemmas.List.Sorted.{IsPermutation-refl}
 use Rattle.hy_rest.specs.Rest.{Continues, Alive, AnyOrder}
 use Rattle.hy_rest.proofs.Rest.{in_order_continues, free_continues, held_continues}
 use Rattle.hy_driver.specs.Rows.{Row, Fed}
@@ -77,3 +78,20 @@ storeless_steps rest rest' ended ended' phase phase' turns turns' untested untes
 -- a driver that is no check has tested whatever it took
 pub none_tested : (check : Option Check) → check ≡ None → (rows : List Row) → Tested check rows []
 none_tested check none rows = subst (λ c. Tested c rows []) (sym none) (rows, sym (append-nil rows), tt)
+
+-- ---- new drivers
+
+-- one that neither owes nor holds anything may put the output
+pub new_ordered : (ended : ℕ → Bool) (width : ℕ → ℕ) (out : List Fed → List Row → Type 0) (took : List Fed) (put : List Row)
+    → in_order ended width [] [] out took put ↔ (may_come ended width took × out took put)
+new_ordered ended width out took put = (
+  λ h. (h.0, subst (out took) (sym h.1.is) h.1.output),
+  λ h. (h.0, record { rest = put; output = h.1; is = refl }),
+)
+
+pub new_free : (ended : ℕ → Bool) (width : ℕ → ℕ) (out : List Fed → List Row → Type 0) (took : List Fed) (put : List Row)
+    → free ended width [] [] out took put ↔ (may_come ended width took × out took put)
+new_free ended width out took put = (
+  λ h. (h.0, subst (out took) (sym (h.1.alone refl)) h.1.output),
+  λ h. (h.0, record { rest = put; output = h.1; among = IsPermutation-refl put; alone = λ e. refl }),
+)

@@ -1,5 +1,5 @@
 -- The steps of the driver that keeps all rows.
-use Rattle.std.proofs.Common.{◌≡◌, ◌≢◌, ℕ, Bool, true, false, true≢false, List, [], ◌∷◌, ◌++◌, map, length, None, refl, sym, ap, subst, ◌∙◌, append_assoc, append-nil}
+use Rattle.std.proofs.Common.{◌≡◌, ◌≢◌, ℕ, Bool, true, false, true≢false, List, [], ◌∷◌, ◌++◌, map, length, None, refl, sym, ap, subst, ◌∙◌, append_assoc, append-nil, arith}
 use Rattle.std.specs.List.{All, AllByRecursion}
 use Rattle.std.specs.List.Sorted.{IsPermutation}
 use Rattle.std.proofs.lemmas.List.Sorted.{IsPermutation-refl}
@@ -12,7 +12,7 @@ use Rattle.hy_store.proofs.FieldLaws.{rows_are_values}
 use Rattle.hy_driver.specs.Rows.{Row, AreValues, Fed, values_of}
 use Rattle.hy_driver.specs.Seen.{Fixed, no_store}
 use Rattle.hy_driver.specs.Forms.{may_come, one_ended}
-use Rattle.hy_driver.specs.Steps.{Steps, TellsTurn}
+use Rattle.hy_driver.specs.Steps.{IsNew, Steps, TellsTurn}
 use Rattle.hy_driver.specs.Handing.{HandedOn}
 use Rattle.hy_driver.specs.Pass.{pass_out}
 use Rattle.hy_driver.specs.Keep.{kept, keep_state}
@@ -21,7 +21,7 @@ use Rattle.hy_driver.specs.declared.phase.Phase.{Phase}
 use Rattle.hy_driver.specs.declared.phase.Phase.TheVariants.{Working, Hungry, Ended, GivenUp}
 use Rattle.hy_driver.proofs.Values.{values_again, fields_again, as_many}
 use Rattle.hy_driver.proofs.Turns.{turns_asking, turns_ending}
-use Rattle.hy_driver.proofs.Forms.{EndsMore, ends_none, all_ended, none_comes, none_tested, ordered}
+use Rattle.hy_driver.proofs.Forms.{EndsMore, ends_none, all_ended, none_comes, none_tested, new_ordered, ordered}
 
 abbrev rows_in : List Fed → List Row
 rows_in = map (λ x. x.1)
@@ -115,3 +115,12 @@ module _ (fixed : Fixed) (none : fixed.check ≡ None) where
     rows = λ e all. rw (of_rows, no_frames, no_runs) (fields_kept fixed.arity rows all ∙ sym (append-nil rows));
     none = λ e. (of_rows ∙ given_up e, no_runs);
   }
+
+pub keep_new : (fixed : Fixed) (rows : List Fields) → rows ≡ [] → IsNew (keep_state fixed rows false Working) pass_out
+keep_new fixed rows none = subst (λ r. IsNew (keep_state fixed r false Working) pass_out) (sym none) (record {
+  phase = refl;
+  frames = omega arith;
+  untested = refl;
+  rest = λ h. new_ordered (one_ended false) fixed.width pass_out;
+  alive = λ h. in_order_alive (may_come (one_ended false) fixed.width) pass_out [] [] (λ took may. (rows_in took, refl));
+})

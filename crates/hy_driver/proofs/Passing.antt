@@ -8,13 +8,13 @@ use Rattle.hy_store.specs.declared.fault.Next.TheVariants as N
 use Rattle.hy_driver.specs.Rows.{Row, AreValues, Fed, values_of}
 use Rattle.hy_driver.specs.Seen.{Fixed}
 use Rattle.hy_driver.specs.Forms.{may_come, in_order, one_ended}
-use Rattle.hy_driver.specs.Steps.{Steps, TellsTurn}
+use Rattle.hy_driver.specs.Steps.{IsNew, Steps, TellsTurn}
 use Rattle.hy_driver.specs.Pass.{pass_out, held_row, pass_state}
 use Rattle.hy_driver.specs.declared.phase.Phase.{Phase}
 use Rattle.hy_driver.specs.declared.phase.Phase.TheVariants.{Working, Hungry, Ended, GivenUp}
 use Rattle.hy_driver.proofs.Values.{values_again, fields_again, as_many}
 use Rattle.hy_driver.proofs.Turns.{turns_asking, turns_ending, beside}
-use Rattle.hy_driver.proofs.Forms.{EndsMore, ends_none, all_ended, none_comes, none_tested, ordered, storeless_steps}
+use Rattle.hy_driver.proofs.Forms.{EndsMore, ends_none, all_ended, none_comes, none_tested, new_ordered, ordered, storeless_steps}
 
 some_put : (ended : Bool) (fixed : Fixed) (held : List Fed) → Alive (may_come (one_ended ended) fixed.width) (in_order (one_ended ended) fixed.width [] held pass_out)
 some_put ended fixed held = in_order_alive (may_come (one_ended ended) fixed.width) pass_out [] held (λ took may. (map (λ x. x.1) (held ++ took), refl))
@@ -95,3 +95,12 @@ module _ (fixed : Fixed) (none : fixed.check ≡ None) where
           makes = refl;
         },
       )
+
+pub pass_new : (fixed : Fixed) (row : Fields) → IsNew (pass_state fixed row false false Working) pass_out
+pass_new fixed row = record {
+  phase = refl;
+  frames = omega arith;
+  untested = refl;
+  rest = λ h. new_ordered (one_ended false) fixed.width pass_out;
+  alive = λ h. some_put false fixed [];
+}

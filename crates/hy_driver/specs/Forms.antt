@@ -31,7 +31,7 @@ one_ended ended input = if input == 0 then ended else true
 
 -- a driver without a store, which holds no frames
 abbrev pub storeless : (List Fed → List Row → Type 0) → (ℕ → Bool) → Phase → ℕ → List Row → List Row → Fixed → Seen
-storeless rest ended phase turns untested on fixed = record {
+storeless rest ended phase turns untested hands_on fixed = record {
   rest = rest;
   sound = Unit {0};
   ended = ended;
@@ -39,7 +39,7 @@ storeless rest ended phase turns untested on fixed = record {
   turns = turns;
   frames = 0;
   untested = untested;
-  on = on;
+  hands_on = hands_on;
   store = no_store;
   makes = λ took. 0;
   fixed = fixed;

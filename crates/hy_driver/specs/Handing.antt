@@ -32,7 +32,7 @@ pub record HandedOn (s : Seen) (h : Handed) : Type 0 where
   -- of one that has ended, the live runs of its store, and the rows that it was to hand on
   pub runs : s.phase ≡ P.Ended → IsPermutation s.store.runs.live h.runs
   pub shapes : s.phase ≡ P.Ended → AllByRecursion (λ run. HaveShape s.store.runs run s.fixed.arity s.fixed.unit) h.runs
-  pub rows : s.phase ≡ P.Ended → s.sound → Told s.store.runs.held (λ held. map fields_of s.on ≡ handed_rows h held)
+  pub rows : s.phase ≡ P.Ended → s.sound → Told s.store.runs.held (λ held. map fields_of s.hands_on ≡ handed_rows h held)
   -- of one that was given up, nothing
   pub none : s.phase ≡ P.GivenUp → (h.rows ≡ []) × (h.runs ≡ [])
 

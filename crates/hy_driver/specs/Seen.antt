@@ -47,7 +47,7 @@ pub record Seen : Type 1 where
   -- the rows that it took and has still to test, of a check
   pub untested : List Row
   -- the rows that it hands on, once it has ended
-  pub on : List Row
+  pub hands_on : List Row
   pub store : StoreOf
   -- how many runs it still makes for the rows that are still to come
   pub makes : List Fed → ℕ

@@ -1,5 +1,5 @@
 -- What a driver's calls do to it, and what their answers tell.
-use Rattle.std.specs.Prelude.{◌≡◌, ◌≢◌, ◌+◌, ◌-◌, ◌^◌, ◌<◌, ◌≤◌, ◌==◌, ◌||◌, ℕ, Bool, true, false, List, [], ◌∷◌, ◌++◌, map, length, Option, Some, None, Result, Ok, Err}
+use Rattle.std.specs.Prelude.{◌≡◌, ◌≢◌, ◌↔◌, ◌+◌, ◌-◌, ◌^◌, ◌<◌, ◌≤◌, ◌==◌, ◌||◌, ℕ, Bool, true, false, List, [], ◌∷◌, ◌++◌, map, length, Option, Some, None, Result, Ok, Err}
 use Rattle.std.specs.List.{AllByRecursion, Contains}
 use Rattle.al_value.specs.Outside.{Rose}
 use Rattle.hy_frame.specs.Bank.{BankOf}
@@ -74,6 +74,15 @@ pub record Steps (old : Seen) (fed : List Fed) (sent : List Row) (new : Seen) : 
   -- its store served every call
   pub served : new.store.faults ≡ old.store.faults
 
+-- a new driver, of which this is the output for the rows that come: nothing happened to it yet, and there is always something that
+-- it may put
+pub record IsNew (s : Seen) (out : List Fed → List Row → Type 0) : Type 0 where
+  pub phase : s.phase ≡ P.Working
+  pub frames : s.frames ≤ s.fixed.memory + 1
+  pub untested : s.untested ≡ []
+  pub rest : s.sound → (took : List Fed) (put : List Row) → s.rest took put ↔ (MayCome s took × out took put)
+  pub alive : s.sound → Alive (MayCome s) s.rest
+
 -- ---- faults
 
 -- why a call gave up: a check has a row that doesn't pass, of those that were to be tested and of these; or its store failed in it
@@ -102,7 +111,7 @@ Gives old out new = (row : Row) × AreValues row × (length row ≡ old.fixed.ar
 
 -- it has nothing to do any more but to hand these rows on, and makes no run
 pub record IsOver (s : Seen) : Type 0 where
-  pub finished : FinishedWith s.on s.rest
+  pub finished : FinishedWith s.hands_on s.rest
   pub makes : s.makes [] ≡ 0
 
 -- asking again for input, and ending again, is no turn

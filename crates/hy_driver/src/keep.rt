@@ -27,9 +27,19 @@ pub struct KeepRows {
 }
 
 impl KeepRows {
+    ghost use Rattle.std.specs.Prelude.{None, false, ℕ};
+    ghost use Rattle.hy_driver.specs.Forms.{one_ended};
+    ghost use Rattle.hy_driver.specs.Keep.{keep_fixed, keep_seen};
+    ghost use Rattle.hy_driver.specs.Pass.{pass_out};
+    ghost use Rattle.hy_driver.specs.Steps.{IsNew};
+
     /// One for rows of this many fields.
     pub fn new(alloc: Global, settings: Settings, width: u32) -> KeepRows
         requires { width ≤ 1024 }
+        ensures new { IsNew (keep_seen result) pass_out }
+        ensures sound { (keep_seen result).sound }
+        ensures made { keep_fixed result ≡ record { unit = settings.frame_size; memory = settings.memory; cost = 1; width = λ input. width; arity = width; check = None } }
+        ensures input { (k : ℕ) → (keep_seen result).ended k ≡ one_ended false k }
     {
         KeepRows {
             alloc,

@@ -26,9 +26,17 @@ pub struct PassRows {
 }
 
 impl PassRows {
+    ghost use Rattle.std.specs.Prelude.{None, false, ℕ};
+    ghost use Rattle.hy_driver.specs.Forms.{one_ended};
+    ghost use Rattle.hy_driver.specs.Pass.{pass_fixed, pass_out, pass_seen};
+    ghost use Rattle.hy_driver.specs.Steps.{IsNew};
+
     /// One for rows of this many fields.
     pub fn new(alloc: Global, settings: Settings, width: u32) -> PassRows
         requires { width ≤ 1024 }
+        ensures new { IsNew (pass_seen result) pass_out }
+        ensures made { pass_fixed result ≡ record { unit = settings.frame_size; memory = settings.memory; cost = 2; width = λ input. width; arity = width; check = None } }
+        ensures input { (k : ℕ) → (pass_seen result).ended k ≡ one_ended false k }
     {
         PassRows {
             settings,
