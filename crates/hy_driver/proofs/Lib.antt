@@ -3,3 +3,4 @@ pub mod Turns
 pub mod Forms
 pub mod Passing
 pub mod Keeping
+pub mod StepLaws

@@ -4,11 +4,13 @@
 mod driver;
 mod handed;
 mod keep;
+mod laws;
 mod pass;
 mod phase;
 
 pub use driver::Driver;
 pub use handed::{Handed, HandsOn};
 pub use keep::KeepRows;
+pub use laws::{Starts, driver_laws, row_laws};
 pub use pass::PassRows;
 pub use phase::Phase;
