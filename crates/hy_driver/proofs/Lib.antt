@@ -4,3 +4,4 @@ pub mod Forms
 pub mod Passing
 pub mod Keeping
 pub mod StepLaws
+pub mod CaseProofs

@@ -1,13 +1,11 @@
 -- How calls of a driver are put together.
-use Rattle.std.proofs.Common.{◌≡◌, ◌+◌, ◌==◌, ◌||◌, ℕ, Bool, true, false, true≢false, List, [], ◌∷◌, ◌++◌, map, Option, Some, None, refl, sym, ap, subst, ◌∙◌, append_assoc, append-nil, add-zero}
-use Rattle.std.specs.List.{AllByRecursion}
-use Rattle.hy_rest.specs.Rest.{Continues}
+use Rattle.std.proofs.Common.{◌≡◌, ◌+◌, ◌==◌, ◌||◌, Bool, true, false, true≢false, List, [], ◌∷◌, ◌++◌, map, Option, Some, None, refl, sym, ap, subst, ◌∙◌, append_assoc, append-nil, add-zero}
 use Rattle.hy_rest.proofs.Rest.{continues_then}
 use Rattle.hy_driver.specs.Rows.{Row, Fed}
 use Rattle.hy_driver.specs.Seen.{Check, Seen}
 use Rattle.hy_driver.specs.Forms.{may_come}
-use Rattle.hy_driver.specs.Steps.{MayCome, Pass, Tested, Steps}
-use Rattle.hy_driver.specs.Laws.{Comes, FedComes, EndedComes, TurnedComes, ComesThen, StepsThen, NoneComes, WholeRun}
+use Rattle.hy_driver.specs.Steps.{MayCome, Pass, Tested}
+use Rattle.hy_driver.specs.Laws.{FedComes, EndedComes, TurnedComes, ComesThen, StepsThen, NoneComes, WholeRun}
 use Rattle.hy_driver.proofs.Forms.{EndsMore, come_from, none_comes}
 
 -- what comes is as wide as before
@@ -40,10 +38,11 @@ passes_both (Some check) [] more p q = q
 passes_both (Some check) (row ∷ rows) more p q = (p.0, passes_both (Some check) rows more p.1 q)
 
 tested_then : (check : Option Check) (before between after fed fed' : List Row) → Tested check (before ++ fed) between → Tested check (between ++ fed') after → Tested check (before ++ (fed ++ fed')) after
-tested_then check before between after fed fed' a b =
-    (a.0 ++ b.0,
-    sym (append_assoc before fed fed') ∙ (ap (λ r. r ++ fed') a.1 ∙ (append_assoc a.0 between fed' ∙ (ap (λ r. a.0 ++ r) b.1 ∙ sym (append_assoc a.0 b.0 after)))),
-    passes_both check a.0 b.0 a.2 b.2)
+tested_then check before between after fed fed' a b = (
+  a.0 ++ b.0,
+  sym (append_assoc before fed fed') ∙ (ap (λ r. r ++ fed') a.1 ∙ (append_assoc a.0 between fed' ∙ (ap (λ r. a.0 ++ r) b.1 ∙ sym (append_assoc a.0 b.0 after)))),
+  passes_both check a.0 b.0 a.2 b.2,
+)
 
 rows_of_both : (fed fed' : List Fed) → map (λ x. x.1) (fed ++ fed') ≡ map (λ x. x.1) fed ++ map (λ x. x.1) fed'
 rows_of_both [] fed' = refl
@@ -58,13 +57,14 @@ steps_then first second third fed fed' sent sent' fixed comes a b = record {
       b.makes (a.sound h) took may ∙ (a.makes h (fed' ++ took) (comes took may) ∙ ap (λ t. first.store.runs.made + first.makes t) (sym (append_assoc fed fed' took)));
   tested = subst (λ r. Tested first.fixed.check (first.untested ++ r) third.untested) (sym (rows_of_both fed fed'))
       (tested_then first.fixed.check first.untested second.untested third.untested (map (λ x. x.1) fed) (map (λ x. x.1) fed')
-        a.tested (subst (λ f. Tested f.check (second.untested ++ map (λ x. x.1) fed') third.untested) fixed b.tested));
+      a.tested (subst (λ f. Tested f.check (second.untested ++ map (λ x. x.1) fed') third.untested) fixed b.tested));
   served = b.served ∙ a.served;
 }
 
 pub whole_run : (first last : Seen) (out : List Fed → List Row → Type 0) → WholeRun first last out
 whole_run first last out fed sent new sound steps over =
     let put = subst (λ t. first.rest t (sent ++ last.hands_on)) (append-nil fed) ((steps.rest sound).back [] last.hands_on over.finished.some) in
-    let runs : last.store.runs.made + last.makes [] ≡ first.store.runs.made + first.makes (fed ++ []) = steps.makes sound [] tt in
-    (((new.rest sound fed (sent ++ last.hands_on)).0 put).1,
-    sym (add-zero last.store.runs.made) ∙ (ap (λ n. last.store.runs.made + n) (sym over.makes) ∙ (runs ∙ ap (λ t. first.store.runs.made + first.makes t) (append-nil fed))))
+    let runs : last.store.runs.made + last.makes [] ≡ first.store.runs.made + first.makes (fed ++ []) = steps.makes sound [] tt in (
+      ((new.rest sound fed (sent ++ last.hands_on)).0 put).1,
+      sym (add-zero last.store.runs.made) ∙ (ap (λ n. last.store.runs.made + n) (sym over.makes) ∙ (runs ∙ ap (λ t. first.store.runs.made + first.makes t) (append-nil fed))),
+    )

@@ -1,5 +1,5 @@
 -- Worked cases of what contracts say of drivers.
-use Rattle.std.specs.Prelude.{pos, negsuc, ◌≡◌, ◌≢◌, ◌↔◌, ◌^◌, ◌-◌, ℕ, nat_eq, Bool, true, false, List, [], ◌∷◌, ◌++◌, map, length, Some, None}
+use Rattle.std.specs.Prelude.{pos, negsuc, ◌≡◌, ◌≢◌, ◌↔◌, ◌^◌, ◌-◌, ℕ, nat_eq, Bool, true, false, List, [], ◌∷◌, ◌++◌, length, Some, None}
 use Rattle.al_value.specs.declared.value.Value.TheVariants as V
 use Rattle.hy_frame.specs.Bank.{BankOf}
 use Rattle.hy_frame.specs.Frame.{FrameOf}
@@ -8,12 +8,11 @@ use Rattle.hy_store.specs.Fields.{fields_of}
 use Rattle.hy_store.specs.declared.fault.Next.TheVariants as N
 use Rattle.hy_store.specs.declared.fault.OpFault.TheVariants as F
 use Rattle.hy_driver.specs.Rows.{Row, Fed, values_of}
-use Rattle.hy_driver.specs.Seen.{Check, Fixed, Seen, no_store}
+use Rattle.hy_driver.specs.Seen.{Fixed, Seen, no_store}
 use Rattle.hy_driver.specs.Forms.{may_come}
 use Rattle.hy_driver.specs.Steps.{Fails, Gives, HasRoom, LeavesRuns, Lent, Steps, TellsFault, TellsTurn, Tested}
 use Rattle.hy_driver.specs.Handing.{handed_rows, more}
 use Rattle.hy_driver.specs.Pass.{pass_state}
-use Rattle.hy_driver.specs.declared.handed.Handed.{Handed}
 use Rattle.hy_driver.specs.declared.phase.Phase.TheVariants.{Working, Hungry, Ended}
 
 abbrev pub int_row : ℕ → Row

@@ -3,6 +3,7 @@
 ghost use Rattle.std.specs.Prelude.{ℕ, List};
 ghost use Rattle.hy_driver.specs.Rows.{Fed, FieldsAgain, Row, ValuesAgain};
 ghost use Rattle.hy_driver.specs.Laws.{ComesThen, EndedComes, FedComes, NoneComes, StepsThen, TurnedComes, WholeRun};
+ghost use Rattle.hy_driver.specs.Cases.{AskingTurns, ChecksFail, ChecksTest, EndsAtTheEnd, ExportsCount, FieldsHaveValues, FramesCount, GivesWhatItHolds, HandedInOrder, RowsThatCome, RunsAreLeft, RunsAreMade};
 
 use crate::driver::Driver;
 
@@ -33,4 +34,21 @@ pub fn driver_laws<D: Starts>()
 pub fn row_laws()
     ensures values { ValuesAgain }
     ensures fields { FieldsAgain }
+{}
+
+/// What may come to drivers, what their answers tell, and what they may leave. It does nothing: its
+/// clauses are worked cases.
+pub fn driver_cases()
+    ensures values { FieldsHaveValues }
+    ensures comes { RowsThatCome }
+    ensures tests { ChecksTest }
+    ensures fails { ChecksFail }
+    ensures gives { GivesWhatItHolds }
+    ensures ends { EndsAtTheEnd }
+    ensures asks { AskingTurns }
+    ensures frames { FramesCount }
+    ensures left { RunsAreLeft }
+    ensures made { RunsAreMade }
+    ensures handed { HandedInOrder }
+    ensures exports { ExportsCount }
 {}

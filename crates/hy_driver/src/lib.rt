@@ -11,6 +11,6 @@ mod phase;
 pub use driver::Driver;
 pub use handed::{Handed, HandsOn};
 pub use keep::KeepRows;
-pub use laws::{Starts, driver_laws, row_laws};
+pub use laws::{Starts, driver_cases, driver_laws, row_laws};
 pub use pass::PassRows;
 pub use phase::Phase;
