@@ -34,44 +34,18 @@ use Rattle.hy_job.specs.declared.job.Stage.{Stage}
 use Rattle.hy_job.specs.Stages.{StageOf}
 use Rattle.al_value.specs.declared.fault.NoMemory.{NoMemory}
 use Rattle.al_plan.specs.Accept.{IsAccepted, accept_refusal}
-use Rattle.al_read.specs.declared.plan.ReadRefused.{ReadRefused}
-use Rattle.al_read.specs.declared.plan.ReadRefused.TheVariants as A
-use Rattle.al_read.specs.Reads.{Reads, Refuses as ReadRefuses, refusal}
+use Rattle.al_read.specs.Reads.{Reads, refusal}
 use Rattle.al_read.specs.Reads as unreads
 use Rattle.al_query.specs.declared.status.DataRefused.{DataRefused}
 use Rattle.al_query.specs.declared.status.Status.{Status}
 use Rattle.al_query.specs.declared.status.Status.TheVariants as St
 use Rattle.al_query.specs.declared.data.Loaded.{Loaded}
 use Rattle.al_query.specs.Served.{IsPlan, IsPlanRefused, absent, unread, unaccepted, file_rows, of_file, room_behind, size_of, loaded, IsServed, IsPrinted, IsCompiled, IsExplained, IsText, Writes, is_served, plan_of, query_of, IsAsked, IsDue}
-use Rattle.al_query.specs.Tells.{IsStop, TellsGenerated, TellsPlan, TellsRead, TellsAccepted, TellsSet, TellsBytes, TellsData, TellsEvaluated, Refuses, TellsAnswer, TellsPrinted, TellsExplained, TellsMade, Explains, IsInRange, TellsText, is_idle, is_usage, unread_status}
+use Rattle.al_query.specs.Tells.{IsStop, TellsGenerated, TellsPlan, TellsSet, TellsBytes, TellsData, TellsEvaluated, Refuses, TellsAnswer, TellsPrinted, TellsExplained, TellsMade, Explains, IsInRange, TellsText, is_idle, is_usage}
 use Rattle.al_query.specs.Answer.{IsAnswer}
 use Rattle.al_query.proofs.Dues.{told_map, told_both}
 
 -- ---- plan files
-
-pub read_unread : (bytes : Bytes) (fault : ReadRefused) → ReadRefuses bytes fault → TellsRead bytes (Err (unread_status fault))
-read_unread bytes (A.Refused r) h = h
-read_unread bytes A.NoMemory h = tt
-
-pub read_stopped : (bytes : Bytes) (status : Status) → TellsRead bytes (Err status) → TellsPlan (Some bytes) (Err status)
-read_stopped bytes (St.PlanRefused r) h = unread bytes refl h
-read_stopped bytes St.NoMemory h = tt
-read_stopped bytes St.SourceFault h = tt
-read_stopped bytes St.Done h = h
-read_stopped bytes St.Usage h = h
-read_stopped bytes (St.DataRefused d) h = h
-read_stopped bytes (St.CheckFailed own) h = h
-read_stopped bytes St.SinkFault h = h
-
-pub accept_stopped : (bytes : Bytes) (f : PlanFile) (status : Status) → Reads bytes f → TellsAccepted f (Err status) → TellsPlan (Some bytes) (Err status)
-accept_stopped bytes f (St.PlanRefused r) reads h = unaccepted bytes refl f reads h
-accept_stopped bytes f St.NoMemory reads h = tt
-accept_stopped bytes f St.SourceFault reads h = tt
-accept_stopped bytes f St.Done reads h = h
-accept_stopped bytes f St.Usage reads h = h
-accept_stopped bytes f (St.DataRefused d) reads h = h
-accept_stopped bytes f (St.CheckFailed own) reads h = h
-accept_stopped bytes f St.SinkFault reads h = h
 
 pub told_plan : (files : Option Files) (name bytes : Bytes) (limit : ℕ) (r : Result PlanFile Status) → Told files (λ fs. TellsFile (fs name) limit (found.Bytes bytes)) → TellsPlan (Some bytes) r → Told files (λ fs. TellsPlan (fs name) r)
 told_plan files name bytes limit r h k =

@@ -10,8 +10,6 @@ use Rattle.al_csv.specs.declared.refused.BadRecord.{BadRecord}
 use Rattle.al_words.specs.declared.command.Command.{Command}
 use Rattle.al_words.specs.declared.command.Command.TheVariants as C
 use Rattle.al_plan.specs.declared.file.PlanFile.{PlanFile}
-use Rattle.al_read.specs.declared.plan.ReadRefused.{ReadRefused}
-use Rattle.al_read.specs.declared.plan.ReadRefused.TheVariants as A
 use Rattle.al_plan.specs.declared.plan.Plan.{Plan}
 use Rattle.al_plan.specs.Allows.{Faults}
 use Rattle.al_print.specs.Canonical.{file_with}
@@ -21,8 +19,6 @@ use Rattle.al_phys.specs.declared.phys.Phys.{Phys}
 use Rattle.hy_job.specs.declared.job.Job.{Job}
 use Rattle.hy_job.specs.declared.job.Stage.{Stage}
 use Rattle.hy_job.specs.Stages.{StageOf}
-use Rattle.al_plan.specs.Accept.{accept_refusal}
-use Rattle.al_read.specs.Reads.{Reads, IsReadRefusal}
 use Rattle.al_plain.specs.declared.plan.Data.{Data}
 use Rattle.al_plain.specs.Gives.{sets_of}
 use Rattle.al_query.specs.declared.status.Status.{Status}
@@ -68,25 +64,6 @@ TellsPlan file (Err (St.PlanRefused r)) = IsPlanRefused file r
 TellsPlan file (Err St.SourceFault) = Unit {0}
 TellsPlan file (Err St.NoMemory) = Unit {0}
 TellsPlan file (Err _) = ⊥
-
--- the status of a text that was not read
-abbrev pub unread_status : ReadRefused → Status
-unread_status (A.Refused r) = St.PlanRefused r
-unread_status A.NoMemory = St.NoMemory
-
--- what reading the text of a plan file gave
-abbrev pub TellsRead : Bytes → Result PlanFile Status → Type 0
-TellsRead bytes (Ok f) = Reads bytes f
-TellsRead bytes (Err (St.PlanRefused r)) = IsReadRefusal bytes r
-TellsRead bytes (Err St.NoMemory) = Unit {0}
-TellsRead bytes (Err _) = ⊥
-
--- what looking for the first fault of a file gave
-abbrev pub TellsAccepted : PlanFile → Result (Unit {0}) Status → Type 0
-TellsAccepted f (Ok done) = accept_refusal f ≡ None
-TellsAccepted f (Err (St.PlanRefused r)) = accept_refusal f ≡ Some r
-TellsAccepted f (Err St.NoMemory) = Unit {0}
-TellsAccepted f (Err _) = ⊥
 
 -- what loading one dataset's file gave, behind so many bytes of others
 abbrev pub TellsSet : ℕ → Decl → Option Bytes → Result Loaded Status → Type 0

@@ -3,10 +3,9 @@
 ghost use Rattle.std.specs.Prelude.{◌≡◌, ◌⊎◌, ◌<◌, ◌≤◌, Some, Err as Refuses, IfErr, IfOk};
 ghost use Rattle.al_plan.specs.Refines.{Fit};
 ghost use Rattle.al_query.specs.Served.{IsCompiled, IsPlan, IsPlanRefused};
-ghost use Rattle.al_query.specs.Compiles.{fault_of};
 
-use crate::plan::accept_text;
-use crate::status::Status;
+use crate::accept::accept_text;
+use crate::fault::CompileFault;
 use al_choose::choose;
 use al_infer::acceptance_laws;
 use al_jobgen::job_of;
@@ -18,7 +17,6 @@ use al_rule::Trace;
 use al_value::{Boxed, NoMemory};
 use hy_job::Job;
 use std::alloc::Global;
-use thiserror::Error;
 
 /// What the text of a plan file compiles to: the file, the steps by which its plan is rewritten
 /// and the plan that they lead to, the physical plan, and the job that answers it.
@@ -29,15 +27,6 @@ pub struct Compiled {
     pub trace: Trace,
     pub phys: Phys,
     pub job: Job,
-}
-
-/// Why a text does not compile.
-#[derive(Debug, Drop, Error)]
-pub enum CompileFault {
-    #[error("the plan is refused")]
-    Refused(Refused),
-    #[error("no memory")]
-    NoMemory,
 }
 
 /// A plan, with how it is rewritten, computed and run.
@@ -62,7 +51,7 @@ pub fn compile(alloc: Global, bytes: &[u8], partitions: u32) -> Result<Compiled,
     acceptance_laws();
     let file = match accept_text(alloc, bytes) {
         Ok(file) => file,
-        Err(status) => return Err(fault_of(status)),
+        Err(fault) => return Err(fault),
     };
     match compile_plan(alloc, &file.get().root, partitions) {
         Ok(
@@ -99,13 +88,4 @@ pub fn compile_plan(alloc: Global, root: &Plan, partitions: u32) -> Result<Plann
         phys,
         job,
     })
-}
-
-fn fault_of(status: Status) -> CompileFault
-    ensures { result ≡ fault_of status }
-{
-    match status {
-        Status::PlanRefused(refused) => CompileFault::Refused(refused),
-        _ => CompileFault::NoMemory,
-    }
 }

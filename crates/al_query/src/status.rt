@@ -9,7 +9,8 @@ use al_plan::{Refused, RefusedKind};
 use al_value::{Failed, Name, Text};
 use itoa::Buffer;
 
-fn refused_kind_name(kind: RefusedKind) -> &'static str
+/// The name by which lines and errors call a kind of refusal.
+pub fn refused_kind_name(kind: RefusedKind) -> &'static str
     ensures { result.now ≡ refused_kind_name kind }
 {
     match kind {

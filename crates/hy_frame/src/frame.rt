@@ -189,6 +189,37 @@ impl Frame {
         Ok(())
     }
 
+    /// Takes the rows of another frame in place of its own, and their size.
+    pub fn copy_from(&mut self, other: &Frame) -> Result<(), NoMemory>
+        requires arity { other.now.arity ≡ self.old.arity }
+        requires unit { other.now.unit ≡ self.old.unit }
+        ensures ok { OnOk result (self.new ≡ other.now) }
+        ensures err { OnErr result (self.new ≡ self.old) }
+    {
+        let more = other.bytes.len().saturating_sub(self.bytes.len());
+        self.bytes.reserve(more)?;
+        self.bytes.clear();
+        self.bytes.extend_from_slice(&other.bytes)?;
+        self.count = other.count;
+        self.used = other.used;
+        Ok(())
+    }
+
+    /// A frame with the same rows, for which no bank has a count.
+    pub(crate) fn copy(&self, alloc: Global) -> Result<Frame, NoMemory>
+        ensures { IfOk result (λ f. f ≡ self.now) }
+    {
+        let mut bytes = Vec::new(alloc);
+        bytes.extend_from_slice(&self.bytes)?;
+        Ok(Frame {
+            arity: self.arity,
+            unit: self.unit,
+            count: self.count,
+            used: self.used,
+            bytes,
+        })
+    }
+
     /// Takes all rows out.
     pub fn clear(&mut self)
         ensures { self.new ≡ with_rows self.old [] }

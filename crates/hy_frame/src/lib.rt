@@ -4,6 +4,7 @@
 
 mod bank;
 mod bytes;
+mod copy;
 mod fault;
 mod frame;
 mod laws;
@@ -12,6 +13,7 @@ mod row;
 mod writer;
 
 pub use bank::{Bank, Counts, Sent};
+pub use copy::FrameCopy;
 pub use fault::NoMemory;
 pub use frame::{Append, Frame};
 pub use laws::{frame_cases, frame_laws};

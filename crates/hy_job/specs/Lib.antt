@@ -13,3 +13,7 @@ pub mod RunLaws
 pub mod Cases
 pub mod SettledCases
 pub mod RunCases
+pub mod Opens
+pub mod States
+pub mod Chains
+pub mod StateCases

@@ -1,6 +1,6 @@
 -- A frame's field is the field of one value.
-use Rattle.std.proofs.Common.{◌≡◌, ℕ, zero, suc, ◌+◌, ◌-◌, ◌^◌, ◌%◌, ◌<◌, ◌≤◌, List, [], ◌∷◌, ◌++◌, length, map, true, false, ℤ, pos, negsuc, refl, sym, ap, subst, ◌∙◌, ◌⊎◌, inl, inr, arith}
-use Rattle.std.specs.Prelude.{FitsSigned, ◌↔◌}
+use Rattle.std.proofs.Common.{◌≡◌, ℕ, zero, suc, ◌-◌, ◌^◌, ◌<◌, List, [], ◌∷◌, ◌++◌, length, true, false, ℤ, pos, negsuc, refl, sym, ap, subst, ◌∙◌, inl, inr, arith}
+use Rattle.std.specs.Prelude.{FitsSigned}
 use Rattle.std.specs.List.{AllByRecursion}
 use Rattle.std.specs.Int.{w64}
 use Rattle.std.proofs.lemmas.Int.{ints}
@@ -115,10 +115,11 @@ values_of_row (f ∷ fields) p =
     (v.0 ∷ row.0, (v.1, row.1), rw (v.2, row.2) refl)
 
 pub rows_are_values : RowsAreValues
-rows_are_values arity fields =
-    (λ is. let row = values_of_row fields is.1 in
-           (row.0, sym (length_fields row.0) ∙ ap (λ (l : Fields). length l) row.2 ∙ is.0, row.1, row.2)
-    , λ h. subst (IsRow arity) h.3 (length_fields h.0 ∙ h.1, row_of_values h.0 h.2))
+rows_are_values arity fields = (
+  λ is. let row = values_of_row fields is.1 in
+      (row.0, sym (length_fields row.0) ∙ ap (λ (l : Fields). length l) row.2 ∙ is.0, row.1, row.2),
+  λ h. subst (IsRow arity) h.3 (length_fields h.0 ∙ h.1, row_of_values h.0 h.2),
+)
 
 pub one_row : OneRow
 one_row [] [] p q e = refl

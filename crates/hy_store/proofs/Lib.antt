@@ -1,1 +1,4 @@
+pub mod Cases
 pub mod FieldLaws
+pub mod RunLaws
+pub mod SlotLaws

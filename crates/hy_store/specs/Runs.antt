@@ -1,5 +1,5 @@
 -- The runs of a store and of a shelf, and what calls make of them.
-use Rattle.std.specs.Prelude.{◌≡◌, ◌≢◌, ◌+◌, ◌^◌, ◌-◌, ℕ, min, not, nat_eq, List, [], ◌∷◌, ◌++◌, length, map, Option, Some, slice_get, filter, IsSome}
+use Rattle.std.specs.Prelude.{◌≡◌, ◌≢◌, ◌+◌, ◌^◌, ◌-◌, ℕ, min, not, nat_eq, List, [], ◌∷◌, ◌++◌, length, map, Option, Some, slice_get, filter, is_some}
 use Rattle.std.specs.List.{All, Contains}
 use Rattle.al_value.specs.Outside.{Told}
 use Rattle.hy_frame.specs.Frame.{FrameOf}
@@ -28,10 +28,11 @@ pub record AreNew (s : RunsOf) : Type 0 where
 abbrev pub without : ℕ → List ℕ → List ℕ
 without run live = filter (λ r. not (nat_eq r run)) live
 
--- each run but this one has as many frames as it had, and the same, and what was told still is
+-- each run but this one has as many frames as it had, and the same. What tells goes on telling, and what doesn't doesn't.
 pub record Others (run : ℕ) (old new : RunsOf) : Type 0 where
   pub count : (r : ℕ) → r ≢ run → new.count r ≡ old.count r
-  pub held : Told old.held (λ f. IsSome new.held × Told new.held (λ g. (r : ℕ) → r ≢ run → g r ≡ f r))
+  pub tells : is_some new.held ≡ is_some old.held
+  pub held : Told old.held (λ f. Told new.held (λ g. (r : ℕ) → r ≢ run → g r ≡ f r))
 
 -- the frames of this run, where they are told before and after
 abbrev pub ToldOf : ℕ → RunsOf → RunsOf → (List FrameOf → List FrameOf → Type 0) → Type 0

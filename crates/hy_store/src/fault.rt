@@ -2,6 +2,7 @@ ghost use Rattle.std.specs.Prelude.{◌≡◌};
 
 use al_value::{Failed, NoMemory, Text};
 use hy_frame::NoMemory as NoFrameMemory;
+use std::alloc::{AllocError, AllocFailed};
 
 /// Why a store does not serve a call: the outside failed, or no memory was left.
 #[derive(Clone, Copy, Debug, PartialEq, Eq)]
@@ -36,6 +37,26 @@ impl From<NoFrameMemory> for StoreFault {
     ghost from_gives = { λ _ e. e ≡ fault.NoMemory };
 
     fn from(_e: NoFrameMemory) -> StoreFault {
+        StoreFault::NoMemory
+    }
+}
+
+impl<T: Drop> From<AllocFailed<T>> for StoreFault {
+    ghost use Rattle.hy_store.specs.declared.fault.StoreFault.TheVariants as fault;
+
+    ghost from_gives = { λ _ e. e ≡ fault.NoMemory };
+
+    fn from(_e: AllocFailed<T>) -> StoreFault {
+        StoreFault::NoMemory
+    }
+}
+
+impl From<AllocError> for StoreFault {
+    ghost use Rattle.hy_store.specs.declared.fault.StoreFault.TheVariants as fault;
+
+    ghost from_gives = { λ _ e. e ≡ fault.NoMemory };
+
+    fn from(_e: AllocError) -> StoreFault {
         StoreFault::NoMemory
     }
 }
@@ -87,6 +108,26 @@ impl From<NoFrameMemory> for OpFault {
     ghost from_gives = { λ _ e. e ≡ fault.NoMemory };
 
     fn from(_e: NoFrameMemory) -> OpFault {
+        OpFault::NoMemory
+    }
+}
+
+impl<T: Drop> From<AllocFailed<T>> for OpFault {
+    ghost use Rattle.hy_store.specs.declared.fault.OpFault.TheVariants as fault;
+
+    ghost from_gives = { λ _ e. e ≡ fault.NoMemory };
+
+    fn from(_e: AllocFailed<T>) -> OpFault {
+        OpFault::NoMemory
+    }
+}
+
+impl From<AllocError> for OpFault {
+    ghost use Rattle.hy_store.specs.declared.fault.OpFault.TheVariants as fault;
+
+    ghost from_gives = { λ _ e. e ≡ fault.NoMemory };
+
+    fn from(_e: AllocError) -> OpFault {
         OpFault::NoMemory
     }
 }

@@ -1,0 +1,14 @@
+use Rattle.hy_mail.proofs.Cases.{close_shows_no_row, frame_shows_its_values, frame_shows_no_other_order, frame_shows_no_others}
+use Rattle.hy_mail.proofs.laws.row_cases.Goals as goal
+
+pub returns-clause-frame_shows_its_values : goal.returns-clause-frame_shows_its_values
+returns-clause-frame_shows_its_values c = frame_shows_its_values
+
+pub returns-clause-frame_shows_no_others : goal.returns-clause-frame_shows_no_others
+returns-clause-frame_shows_no_others c = frame_shows_no_others
+
+pub returns-clause-frame_shows_no_other_order : goal.returns-clause-frame_shows_no_other_order
+returns-clause-frame_shows_no_other_order c = frame_shows_no_other_order
+
+pub returns-clause-close_shows_no_row : goal.returns-clause-close_shows_no_row
+returns-clause-close_shows_no_row c = close_shows_no_row

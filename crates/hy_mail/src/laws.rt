@@ -1,0 +1,78 @@
+//! What is true of words and of rows of values, and worked cases.
+ghost use Rattle.hy_mail.specs.Cases.{CloseShowsNoRow, EmptyIsCounted, FailIsNoEnd, FailMayCome, FrameShowsItsValues, FrameShowsNoOtherOrder, FrameShowsNoOthers, FramesHaveTheArity, FramesMayCome, FrontIsTaken, FullIsCounted, FullTakesNoMore, LastIsNotTaken, NoFrameBehindFail, NotRaisedAtFirst, NothingBehindClose, OneReceives, OpenComesFirst, OpenComesOnce, OpenIsABeginning, OpenIsNoEnd, OpenOnce, OthersDontSend, PutGoesIn, PutIsItsSenders, PutIsNotDropped, RaiseIsNotUnseen, RaiseIsSeen, RefusalsCount, RoomIsNotFull, SendersHaveNumbers, SomeIsNotEmpty, WordsAreApart};
+ghost use Rattle.hy_mail.specs.DeskRuns.{ClosedIsTaken, MailboxesStay, OthersWait, RunsDeliver, RunsLead};
+ghost use Rattle.hy_mail.specs.Laws.{EndedIsWriterWord, MayIsNext, WordsAreSoFar, WordsTellState};
+ghost use Rattle.hy_mail.specs.Rows.{FieldsAreValues, FieldsTellValues, ParcelsAreSeen, ParcelsAreSeenOnce, RowsAreValues, RowsTellValues};
+
+/// How far a sender's word has come, and what may come next. It does nothing: its clauses speak of every word.
+pub fn word_laws()
+    ensures state { WordsTellState }
+    ensures so_far { WordsAreSoFar }
+    ensures ended { EndedIsWriterWord }
+    ensures next { MayIsNext }
+{}
+
+/// What any number of steps of any tasks leave on a desk: of each sender, what was put is what was taken and what the
+/// mailbox still holds, and what it puts is a word. It does nothing: its clauses speak of every list of steps.
+pub fn desk_laws()
+    ensures others { OthersWait }
+    ensures mailboxes { MailboxesStay }
+    ensures deliver { RunsDeliver }
+    ensures lead { RunsLead }
+    ensures closed { ClosedIsTaken }
+{}
+
+/// The fields of frames are the fields of values, and parcels are seen with their rows of values. It does nothing.
+pub fn row_laws()
+    ensures fields { FieldsAreValues }
+    ensures one_value { FieldsTellValues }
+    ensures rows { RowsAreValues }
+    ensures one_row { RowsTellValues }
+    ensures parcels { ParcelsAreSeen }
+    ensures seen_once { ParcelsAreSeenOnce }
+{}
+
+/// What is a word, and what is none. It does nothing: its clauses are worked cases.
+pub fn word_cases()
+    ensures frames_may_come { FramesMayCome }
+    ensures fail_may_come { FailMayCome }
+    ensures open_is_a_beginning { OpenIsABeginning }
+    ensures open_is_no_end { OpenIsNoEnd }
+    ensures fail_is_no_end { FailIsNoEnd }
+    ensures open_comes_first { OpenComesFirst }
+    ensures open_comes_once { OpenComesOnce }
+    ensures no_frame_behind_fail { NoFrameBehindFail }
+    ensures nothing_behind_close { NothingBehindClose }
+{}
+
+/// Which rows of values a parcel is seen with. It does nothing: its clauses are worked cases.
+pub fn row_cases()
+    ensures frame_shows_its_values { FrameShowsItsValues }
+    ensures frame_shows_no_others { FrameShowsNoOthers }
+    ensures frame_shows_no_other_order { FrameShowsNoOtherOrder }
+    ensures close_shows_no_row { CloseShowsNoRow }
+{}
+
+/// What may happen to a desk, and what may not. It does nothing: its clauses are worked cases.
+pub fn desk_cases()
+    ensures senders_have_numbers { SendersHaveNumbers }
+    ensures others_dont_send { OthersDontSend }
+    ensures one_receives { OneReceives }
+    ensures put_goes_in { PutGoesIn }
+    ensures put_is_its_senders { PutIsItsSenders }
+    ensures put_is_not_dropped { PutIsNotDropped }
+    ensures words_are_apart { WordsAreApart }
+    ensures open_once { OpenOnce }
+    ensures frames_have_the_arity { FramesHaveTheArity }
+    ensures full_is_counted { FullIsCounted }
+    ensures full_takes_no_more { FullTakesNoMore }
+    ensures room_is_not_full { RoomIsNotFull }
+    ensures front_is_taken { FrontIsTaken }
+    ensures last_is_not_taken { LastIsNotTaken }
+    ensures empty_is_counted { EmptyIsCounted }
+    ensures some_is_not_empty { SomeIsNotEmpty }
+    ensures not_raised_at_first { NotRaisedAtFirst }
+    ensures raise_is_seen { RaiseIsSeen }
+    ensures raise_is_not_unseen { RaiseIsNotUnseen }
+    ensures refusals_count { RefusalsCount }
+{}

@@ -1,0 +1,16 @@
+//! Mailboxes between the tasks of a stage: what a task puts into them, what its port to them and to the abort word
+//! promises, and the mailboxes of one thread.
+#![tactic(auto)]
+
+mod desk;
+mod desk_box;
+mod laws;
+mod parcel;
+mod plan;
+mod port;
+
+pub use desk::{Desk, DeskPort};
+pub use laws::{desk_cases, desk_laws, row_cases, row_laws, word_cases, word_laws};
+pub use parcel::{Parcel, PutAnswer};
+pub use plan::BoxPlan;
+pub use port::Port;

@@ -1,0 +1,3 @@
+pub mod Distincts
+pub mod RunArms
+pub mod NestedCases
