@@ -1,11 +1,11 @@
 -- How calls of a driver are put together.
-use Rattle.std.proofs.Common.{◌≡◌, ◌+◌, ◌==◌, ◌||◌, Bool, true, false, true≢false, List, [], ◌∷◌, ◌++◌, map, Option, Some, None, refl, sym, ap, subst, ◌∙◌, append_assoc, append-nil, add-zero}
+use Rattle.std.proofs.Common.{◌≡◌, ◌+◌, ◌==◌, ◌||◌, Bool, true, false, true≢false, List, [], ◌∷◌, ◌++◌, map, Option, Some, None, refl, sym, ap, subst, ◌∙◌, append_assoc, append-nil, add-zero, ◌≤◌, arith}
 use Rattle.hy_rest.proofs.Rest.{continues_then}
 use Rattle.hy_driver.specs.Rows.{Row, Fed}
 use Rattle.hy_driver.specs.Seen.{Check, Seen}
 use Rattle.hy_driver.specs.Forms.{may_come}
 use Rattle.hy_driver.specs.Steps.{MayCome, Pass, Tested}
-use Rattle.hy_driver.specs.Laws.{FedComes, EndedComes, TurnedComes, ComesThen, StepsThen, NoneComes, WholeRun}
+use Rattle.hy_driver.specs.Laws.{FedComes, EndedComes, TurnedComes, ComesThen, StepsThen, NoneComes, LentAgain, WholeRun}
 use Rattle.hy_driver.proofs.Forms.{EndsMore, come_from, none_comes}
 
 -- what comes is as wide as before
@@ -67,4 +67,16 @@ whole_run first last out fed sent new sound steps over =
     let runs : last.store.runs.made + last.makes [] ≡ first.store.runs.made + first.makes (fed ++ []) = steps.makes sound [] tt in (
       ((new.rest sound fed (sent ++ last.hands_on)).0 put).1,
       sym (add-zero last.store.runs.made) ∙ (ap (λ n. last.store.runs.made + n) (sym over.makes) ∙ (runs ∙ ap (λ t. first.store.runs.made + first.makes t) (append-nil fed))),
+    )
+
+pub lent_again : (old new : Seen) → LentAgain old new
+lent_again old new bank bank' fixed lent of =
+    let frames : old.frames ≤ bank.out = of.out in
+    let out : bank'.out + old.frames ≡ bank.out + new.frames = lent.out in
+    let limit : bank'.limit ≡ bank.limit = lent.limit in (
+      record { unit = lent.unit ∙ (of.unit ∙ ap (λ f. f.unit) (sym fixed)); out = omega (arith, frames, out) },
+      λ room.
+          let memory : new.fixed.memory ≡ old.fixed.memory = ap (λ f. f.memory) fixed in
+          let enough : bank.out + (old.fixed.memory + 1) ≤ bank.limit + old.frames = room in
+          omega (arith, out, limit, memory, enough),
     )

@@ -1,9 +1,10 @@
 -- How calls of a driver are put together.
 use Rattle.std.specs.Prelude.{◌≡◌, ◌+◌, ℕ, true, List, [], ◌∷◌, ◌++◌}
+use Rattle.hy_frame.specs.Bank.{BankOf}
 use Rattle.hy_driver.specs.Rows.{Row, Fed}
 use Rattle.hy_driver.specs.Seen.{Seen}
 use Rattle.hy_driver.specs.Forms.{MayBeFed}
-use Rattle.hy_driver.specs.Steps.{IsNew, IsOver, MayCome, Steps, ended_with}
+use Rattle.hy_driver.specs.Steps.{HasRoom, IsBankOf, IsNew, IsOver, Lent, MayCome, Steps, ended_with}
 
 -- what may come to the new one may come to the old one behind these rows
 abbrev pub Comes : Seen → List Fed → Seen → Type 0
@@ -28,6 +29,10 @@ ComesThen first second third = (fed fed' : List Fed) → Comes first fed second 
 abbrev pub StepsThen : Seen → Seen → Seen → Type 0
 StepsThen first second third = (fed fed' : List Fed) (sent sent' : List Row) → second.fixed ≡ first.fixed → Comes second fed' third
     → Steps first fed sent second → Steps second fed' sent' third → Steps first (fed ++ fed') (sent ++ sent') third
+
+-- a bank that was lent may be lent again
+abbrev pub LentAgain : Seen → Seen → Type 0
+LentAgain old new = (bank bank' : BankOf) → new.fixed ≡ old.fixed → Lent old new bank bank' → IsBankOf old bank → IsBankOf new bank' × (HasRoom old bank → HasRoom new bank')
 
 -- nothing comes where every input has ended
 abbrev pub NoneComes : Seen → Type 0

@@ -5,6 +5,7 @@ ghost use Rattle.hy_driver.specs.declared.phase.Phase.TheVariants.{Ended as HasE
 
 use crate::driver::Driver;
 use crate::handed::{Handed, HandsOn};
+use crate::laws::Starts;
 use crate::phase::Phase;
 use al_value::{List, Settings};
 use hy_frame::{Bank, RowBuf, RowRef};
@@ -93,4 +94,10 @@ impl<R: RunStore> HandsOn<R> for KeepRows {
         };
         (handed, None)
     }
+}
+
+impl Starts for KeepRows {
+    ghost use Rattle.hy_driver.specs.Pass.{pass_out};
+
+    ghost out = { λ d. pass_out };
 }

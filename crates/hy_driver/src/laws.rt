@@ -2,7 +2,7 @@
 
 ghost use Rattle.std.specs.Prelude.{ℕ, List};
 ghost use Rattle.hy_driver.specs.Rows.{Fed, FieldsAgain, Row, ValuesAgain};
-ghost use Rattle.hy_driver.specs.Laws.{ComesThen, EndedComes, FedComes, NoneComes, StepsThen, TurnedComes, WholeRun};
+ghost use Rattle.hy_driver.specs.Laws.{ComesThen, EndedComes, FedComes, LentAgain, NoneComes, StepsThen, TurnedComes, WholeRun};
 ghost use Rattle.hy_driver.specs.Cases.{AskingTurns, ChecksFail, ChecksTest, EndsAtTheEnd, ExportsCount, FieldsHaveValues, FramesCount, GivesWhatItHolds, HandedInOrder, RowsThatCome, RunsAreLeft, RunsAreMade};
 
 use crate::driver::Driver;
@@ -23,6 +23,7 @@ pub fn driver_laws<D: Starts>()
     ensures fed { (old new : D) → FedComes (D.seen old) (D.seen new) }
     ensures ended { (old new : D) → EndedComes (D.seen old) (D.seen new) }
     ensures turned { (old new : D) → TurnedComes (D.seen old) (D.seen new) }
+    ensures lent_again { (old new : D) → LentAgain (D.seen old) (D.seen new) }
     ensures none_comes { (d : D) → NoneComes (D.seen d) }
     ensures comes_then { (first second third : D) → ComesThen (D.seen first) (D.seen second) (D.seen third) }
     ensures steps_then { (first second third : D) → StepsThen (D.seen first) (D.seen second) (D.seen third) }

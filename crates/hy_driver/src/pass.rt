@@ -4,6 +4,7 @@ ghost use Rattle.std.specs.Prelude.{◌≡◌, ◌≤◌, length, true};
 ghost use Rattle.hy_driver.specs.declared.phase.Phase.TheVariants.{Working, Ended as HasEnded};
 
 use crate::driver::Driver;
+use crate::laws::Starts;
 use crate::phase::Phase;
 use al_value::Settings;
 use hy_frame::{Bank, RowBuf, RowRef};
@@ -84,4 +85,10 @@ impl Driver for PassRows {
         self.holds = false;
         self.phase = Phase::GivenUp;
     }
+}
+
+impl Starts for PassRows {
+    ghost use Rattle.hy_driver.specs.Pass.{pass_out};
+
+    ghost out = { λ d. pass_out };
 }

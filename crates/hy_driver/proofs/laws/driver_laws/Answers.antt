@@ -1,4 +1,4 @@
-use Rattle.hy_driver.proofs.StepLaws.{turned_comes, fed_comes, ended_comes, comes_then, none_come, steps_then, whole_run}
+use Rattle.hy_driver.proofs.StepLaws.{turned_comes, fed_comes, ended_comes, comes_then, none_come, steps_then, whole_run, lent_again}
 use Rattle.hy_driver.proofs.laws.driver_laws.Goals as goal
 
 pub returns-clause-fed : goal.returns-clause-fed
@@ -21,3 +21,6 @@ returns-clause-steps_then g c first second third = steps_then (g.D.Driver.seen f
 
 pub returns-clause-whole_run : goal.returns-clause-whole_run
 returns-clause-whole_run g c first last = whole_run (g.D.Driver.seen first) (g.D.Driver.seen last) (g.D.Starts.out first)
+
+pub returns-clause-lent_again : goal.returns-clause-lent_again
+returns-clause-lent_again g c old new = lent_again (g.D.Driver.seen old) (g.D.Driver.seen new)
