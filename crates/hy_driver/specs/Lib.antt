@@ -1,0 +1,9 @@
+pub mod Rows
+pub mod Seen
+pub mod Forms
+pub mod Steps
+pub mod Handing
+pub mod Laws
+pub mod Pass
+pub mod Keep
+pub mod Cases
