@@ -74,11 +74,17 @@ fn a_question_becomes_a_job(rt: HostRuntime) -> Result<(), Fail> {
 
 #[test]
 fn a_department_that_ends_its_quote_is_refused(rt: HostRuntime) -> Result<(), Fail> {
-    let plan = Question { department: "X\" \"Y" }.plan(rt.alloc())?;
+    let plan = Question {
+        department: "X\" \"Y",
+    }
+    .plan(rt.alloc())?;
     let (status, out) = answer(rt.alloc(), plan.as_str())?;
     assert_eq!(&rt; status.code(), 2);
     assert!(&rt; out.bytes().is_empty());
     // the byte is that of the select, whose `eq` has three arguments
-    assert_eq!(&rt; refusal(rt.alloc(), plan.as_str())?.as_str(), "plan refused: WrongArity at 123");
+    assert_eq!(&rt;
+        refusal(rt.alloc(), plan.as_str())?.as_str(),
+        "plan refused: WrongArity at 123"
+    );
     Ok(())
 }
