@@ -4,5 +4,7 @@ pub mod DeskRuns
 pub mod Desks
 pub mod Events
 pub mod Laws
+pub mod MailLaws
+pub mod Mails
 pub mod Rows
 pub mod Words

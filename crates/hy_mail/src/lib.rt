@@ -8,9 +8,10 @@ mod laws;
 mod parcel;
 mod plan;
 mod port;
+mod rule;
 
 pub use desk::{Desk, DeskPort};
-pub use laws::{desk_cases, desk_laws, row_cases, row_laws, word_cases, word_laws};
+pub use laws::{desk_cases, desk_laws, mail_laws, row_cases, row_laws, word_cases, word_laws};
 pub use parcel::{Parcel, PutAnswer};
 pub use plan::BoxPlan;
 pub use port::Port;
