@@ -1,6 +1,8 @@
 -- Each kind of step keeps the rule of a mailbox.
 use Rattle.std.proofs.Common.{◌≡◌, ◌≢◌, ◌<◌, ◌≤◌, ◌+◌, ◌==◌, ◌⊎◌, ℕ, zero, suc, Bool, true, false, List, [], ◌∷◌, ◌++◌, length, get_or, set, sym, refl, ap, ◌∙◌, subst, Option, Some, None, inl, inr, append_assoc, append-nil, arith, eq-eqb, length-append}
-use Rattle.std.specs.Prelude.{All, if◌then◌else◌}
+use Rattle.std.specs.Prelude.{All, if◌then◌else◌, map}
+use Rattle.std.specs.List.{Contains}
+use Rattle.std.proofs.lemmas.List.{length-map, get_or-map}
 use Rattle.std.proofs.lemmas.Bool.{cases_Bool, cases_lt}
 use Rattle.std.proofs.lemmas.List.{get_or_append_left}
 use Rattle.std.proofs.lemmas.List.Elements.{All-head, All-nil, All-push, All-tail, All-weaker}
@@ -10,6 +12,8 @@ use mathlib.Core.Option.{some, some-ne-none, some-injective}
 use lib.ListN.{get_elem?}
 use Rattle.crossbeam_queue.specs.Fifo.{Pushes, Pops, Forks, Merges, Learns}
 use Rattle.crossbeam_queue.proofs.Lists.{at_last, at_longer, at_set, set_else, set_here}
+use Rattle.hy_frame.specs.declared.writer.WriterState.{WriterState}
+use Rattle.hy_frame.specs.declared.writer.WriterState.TheVariants.{Initial}
 use Rattle.hy_mail.specs.declared.parcel.Parcel.{Parcel}
 use Rattle.hy_mail.specs.declared.parcel.Parcel.TheVariants.{Open, Close}
 use Rattle.hy_mail.specs.declared.parcel.Posted.{Posted}
@@ -17,9 +21,11 @@ use Rattle.hy_mail.specs.declared.rule.MailView.{MailView}
 use Rattle.hy_mail.specs.DeskRuns.{of_sender}
 use Rattle.hy_mail.specs.Desks.{IsPostedIn}
 use Rattle.hy_mail.specs.MailLaws.{HeldIsPosted, NumbersAreApart, OneTakes, PutIsTakenOrHeld}
-use Rattle.hy_mail.specs.Mails.{Fits, FitsSender, FitsTaker, HasPass, Keeps, KnowsAll, KnowsPut, KnowsWords, Ledger, Mails, Popped, dealt, joined, maker, popping, pushing, sender, spent}
-use Rattle.hy_mail.specs.Words.{HasArity, IsWordSoFar}
+use Rattle.hy_mail.specs.Mails.{Fits, FitsSender, FitsTaker, HasPass, IsSender, Keeps, KnowsAll, KnowsPut, KnowsWords, Ledger, Mails, Popped, dealt, joined, maker, popping, pushing, sender, spent}
+use Rattle.hy_mail.specs.Passes.{SendState, Settles}
+use Rattle.hy_mail.specs.Words.{HasArity, IsWordSoFar, may, next}
 use Rattle.hy_mail.proofs.Posts.{differs, none_some, of_append, same_some}
+use Rattle.hy_mail.proofs.WordLaws.{all_taken, leads, leads_on}
 
 -- ---- views by their places
 
@@ -205,7 +211,8 @@ learns_words pass v t items views h at p =
 pub learns : (pass : ℕ) (v : MailView) → v.takes ≡ true → Learns Mails pass v (KnowsAll v)
 learns pass v t items views h at i lt =
     let f = (h.1.fits pass v at).taker t in
-    ap (λ q. of_sender i (q ++ items)) f.took ∙ h.1.delivered i ∙ sym (f.known i (subst (λ n. i < n) f.gone lt))
+    let known = f.known i (subst (λ n. i < n) f.gone lt) in
+    (ap (λ q. of_sender i (q ++ items)) f.took ∙ h.1.delivered i ∙ sym known, subst IsWordSoFar (sym known) (h.1.words i))
 
 -- ---- numbers of passes
 
@@ -402,3 +409,24 @@ pub held_is : HeldIsPosted
 held_is items views h i t at p =
     let f = (h.1.fits i t at).taker p in
     subst (λ n. All (IsPostedIn n t.arity) items) (sym f.made) (subst (λ a. All (IsPostedIn h.0.made a) items) (sym f.arity) h.1.posted)
+
+-- ---- passes
+
+-- a sender that has put what may come next is one whose word has come further
+pub sender_on : (number : ℕ) (word after : WriterState) (v w : MailView) (x : Posted) → w ≡ pushing v x → IsSender number word v → may word x.parcel ≡ true → after ≡ next word x.parcel → IsSender number after w
+sender_on number word after v w x is s fits on =
+    subst (IsSender number after) (sym is)
+        (record { sends = s.sends; takes = s.takes; from = s.from; leads = leads_on Initial word after v.put (x.parcel ∷ []) s.leads (fits, on) })
+
+-- once all senders were taken in, and each one's Close was taken, what was taken of each is what it put
+pub settles : (senders : List SendState) (took items : List Posted) (known : List (List Parcel)) → known ≡ map (λ (s : SendState). s.put) senders
+    → ((k : ℕ) → k < length known → (of_sender k (took ++ items) ≡ get_or known k []) × IsWordSoFar (get_or known k []))
+    → ((k : ℕ) → k < length senders → Contains (of_sender k took) Close) → Settles senders took
+settles senders took items known is all closed k d lt =
+    let long : length known ≡ length senders = ap length is ∙ length-map senders (λ (s : SendState). s.put) in
+    let a = all k (subst (λ n. k < n) (sym long) lt) in
+    let put : get_or known k [] ≡ (get_or senders k d).put = ap (λ l. get_or l k []) is ∙ get_or-map (λ (s : SendState). s.put) senders k d [] lt in
+    let split : get_or known k [] ≡ of_sender k took ++ of_sender k items = sym a.0 ∙ of_append k took items in
+    let word = leads (get_or known k []) a.1 in
+    let none = all_taken (get_or known k []) (of_sender k took) (of_sender k items) word.0 word.1 split (closed k lt) in
+    sym (append-nil (of_sender k took)) ∙ ap (λ l. of_sender k took ++ l) (sym none) ∙ sym split ∙ put

@@ -6,5 +6,7 @@ pub mod Events
 pub mod Laws
 pub mod MailLaws
 pub mod Mails
+pub mod Passes
 pub mod Rows
+pub mod Tokens
 pub mod Words

@@ -1,13 +1,15 @@
 -- What a mailbox of threads keeps: what each sender put is what was taken of it, and then what the mailbox holds of it.
-use Rattle.std.specs.Prelude.{◌≡◌, ◌<◌, ◌≤◌, ◌+◌, ℕ, Bool, true, false, List, [], ◌∷◌, ◌++◌, length, slice_index_or, Option, Some, None, All}
+use Rattle.std.specs.Prelude.{◌≡◌, ◌⊎◌, ◌<◌, ◌≤◌, ◌+◌, ℕ, Bool, true, false, List, [], ◌∷◌, ◌++◌, length, slice_index_or, Option, Some, None, All}
 use mathlib.Core.Option.{some}
 use lib.ListN.{get_elem?}
+use Rattle.hy_frame.specs.declared.writer.WriterState.{WriterState}
+use Rattle.hy_frame.specs.declared.writer.WriterState.TheVariants.{Initial}
 use Rattle.hy_mail.specs.declared.parcel.Parcel.{Parcel}
 use Rattle.hy_mail.specs.declared.parcel.Posted.{Posted}
 use Rattle.hy_mail.specs.declared.rule.MailView.{MailView}
 use Rattle.hy_mail.specs.DeskRuns.{of_sender}
 use Rattle.hy_mail.specs.Desks.{IsPostedIn}
-use Rattle.hy_mail.specs.Words.{IsWordSoFar}
+use Rattle.hy_mail.specs.Words.{IsWordSoFar, Leads}
 
 -- ---- views
 
@@ -109,6 +111,28 @@ KnowsPut v items = (took : List Posted) × (of_sender v.from (took ++ items) ≡
 abbrev pub KnowsWords : MailView → List Posted → Type 0
 KnowsWords v items = (p : ℕ) → IsWordSoFar (of_sender p (v.took ++ items))
 
--- and of each sender that it took in, what that put is what was taken of it and what is there
+-- and of each sender that it took in, what that put is what was taken of it and what is there, and a word so far
 abbrev pub KnowsAll : MailView → List Posted → Type 0
-KnowsAll v items = (k : ℕ) → k < length v.known → of_sender k (v.took ++ items) ≡ slice_index_or v.known k []
+KnowsAll v items = (k : ℕ) → k < length v.known → (of_sender k (v.took ++ items) ≡ slice_index_or v.known k []) × IsWordSoFar (slice_index_or v.known k [])
+
+-- ---- what the code keeps of views
+
+-- a sender's pass: the words of what it put have come this far
+pub record IsSender (number : ℕ) (word : WriterState) (v : MailView) : Type 0 where
+  pub sends : v.sends ≡ true
+  pub takes : v.takes ≡ false
+  pub from : v.from ≡ number
+  pub leads : Leads Initial v.put word
+
+-- the taker's pass, which has taken no other in
+pub record IsTaker (v : MailView) : Type 0 where
+  pub takes : v.takes ≡ true
+  pub sends : v.sends ≡ false
+  pub known : v.known ≡ []
+
+-- the pass of the maker, which has dealt so many numbers at this arity and took nothing
+pub record IsMaker (number kept : ℕ) (v : MailView) : Type 0 where
+  pub taker : IsTaker v
+  pub made : v.made ≡ number
+  pub arity : (v.made ≡ 0) ⊎ (v.arity ≡ kept)
+  pub took : v.took ≡ []

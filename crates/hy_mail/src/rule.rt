@@ -68,6 +68,7 @@ impl Join<MailView> for TakeIn {
 pub struct Push;
 
 impl Outcome<Posted, MailView> for Push {
+    ghost use Rattle.std.specs.Prelude.{◌≡◌};
     ghost use Rattle.hy_mail.specs.Mails.{pushing};
 
     ghost then = { λ v x w. w ≡ pushing v x };
