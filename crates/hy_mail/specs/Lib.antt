@@ -8,5 +8,7 @@ pub mod MailLaws
 pub mod Mails
 pub mod Passes
 pub mod Rows
+pub mod Seated
+pub mod SeatedLaws
 pub mod Tokens
 pub mod Words

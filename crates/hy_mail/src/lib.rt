@@ -10,6 +10,7 @@ mod parcel;
 mod plan;
 mod port;
 mod rule;
+mod seat_port;
 
 pub use desk::{Desk, DeskPort};
 pub use laws::{desk_cases, desk_laws, mail_laws, row_cases, row_laws, word_cases, word_laws};
@@ -17,3 +18,4 @@ pub use mailbox::{Mailbox, SendPass, TakePass};
 pub use parcel::{Parcel, PutAnswer};
 pub use plan::BoxPlan;
 pub use port::Port;
+pub use seat_port::{SeatParts, SeatPort};
