@@ -4,5 +4,11 @@ pub mod DeskRuns
 pub mod Desks
 pub mod Events
 pub mod Laws
+pub mod MailLaws
+pub mod Mails
+pub mod Passes
 pub mod Rows
+pub mod Seated
+pub mod SeatedLaws
+pub mod Tokens
 pub mod Words

@@ -2,6 +2,7 @@
 ghost use Rattle.hy_mail.specs.Cases.{CloseShowsNoRow, EmptyIsCounted, FailIsNoEnd, FailMayCome, FrameShowsItsValues, FrameShowsNoOtherOrder, FrameShowsNoOthers, FramesHaveTheArity, FramesMayCome, FrontIsTaken, FullIsCounted, FullTakesNoMore, LastIsNotTaken, NoFrameBehindFail, NotRaisedAtFirst, NothingBehindClose, OneReceives, OpenComesFirst, OpenComesOnce, OpenIsABeginning, OpenIsNoEnd, OpenOnce, OthersDontSend, PutGoesIn, PutIsItsSenders, PutIsNotDropped, RaiseIsNotUnseen, RaiseIsSeen, RefusalsCount, RoomIsNotFull, SendersHaveNumbers, SomeIsNotEmpty, WordsAreApart};
 ghost use Rattle.hy_mail.specs.DeskRuns.{ClosedIsTaken, MailboxesStay, OthersWait, RunsDeliver, RunsLead};
 ghost use Rattle.hy_mail.specs.Laws.{EndedIsWriterWord, MayIsNext, WordsAreSoFar, WordsTellState};
+ghost use Rattle.hy_mail.specs.MailLaws.{DealKeeps, HeldIsPosted, MailBegins, NumbersAreApart, OneTakes, PopKeeps, PushKeeps, PutIsTakenOrHeld, TakeInKeeps};
 ghost use Rattle.hy_mail.specs.Rows.{FieldsAreValues, FieldsTellValues, ParcelsAreSeen, ParcelsAreSeenOnce, RowsAreValues, RowsTellValues};
 
 /// How far a sender's word has come, and what may come next. It does nothing: its clauses speak of every word.
@@ -20,6 +21,20 @@ pub fn desk_laws()
     ensures deliver { RunsDeliver }
     ensures lead { RunsLead }
     ensures closed { ClosedIsTaken }
+{}
+
+/// The rule of a mailbox of threads: it holds at the start, each kind of step keeps it, and what it says at every
+/// moment. It does nothing.
+pub fn mail_laws()
+    ensures begins { MailBegins }
+    ensures push { PushKeeps }
+    ensures pop { PopKeeps }
+    ensures deal { DealKeeps }
+    ensures take_in { TakeInKeeps }
+    ensures one_takes { OneTakes }
+    ensures apart { NumbersAreApart }
+    ensures put { PutIsTakenOrHeld }
+    ensures held { HeldIsPosted }
 {}
 
 /// The fields of frames are the fields of values, and parcels are seen with their rows of values. It does nothing.
