@@ -5,9 +5,8 @@
 mod rates;
 
 use rates::counted;
-use std::env;
-use std::io;
 use std::io::ErrorKind;
+use std::{env, io};
 
 fn main(rt: HostRuntime) -> io::Result<()> {
     let mut words = env::args(&rt)?.skip(1);

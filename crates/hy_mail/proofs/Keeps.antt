@@ -102,8 +102,7 @@ puts n pass v x sends quiet numbered arity far items views room h at =
     let below : x.from < l.made = subst (λ f. f < l.made) numbered mine.below in
     let m = after_push l x in
     let taking : (j : ℕ) (u : MailView) → FitsTaker l j u → FitsTaker m j u =
-        λ j u f. record { only = f.only; took = f.took; made = f.made; arity = f.arity; gone = f.gone; known = λ i lt. f.known i lt ∙ sym (seated i (k.ended i lt)) } in
-    (
+    λ j u f. record { only = f.only; took = f.took; made = f.made; arity = f.arity; gone = f.gone; known = λ i lt. f.known i lt ∙ sym (seated i (k.ended i lt)) } in (
       pushing v x,
       (
         m,
@@ -131,15 +130,15 @@ puts n pass v x sends quiet numbered arity far items views room h at =
                 idle = (k.fits pass v at).idle;
               })
               (λ j u other e.
-                  let f = k.fits j u e in
-                  record {
-                    sender = λ s.
-                        let g = f.sender s in
-                        record { seat = g.seat; put = g.put ∙ sym (put_else l.sent x u.from (λ same. other (same_some j pass (sym g.seat ∙ ap l.seat (sym same) ∙ home)))); below = g.below; arity = g.arity };
-                    taker = λ t. taking j u (f.taker t);
-                    silent = f.silent;
-                    idle = f.idle;
-                  });
+              let f = k.fits j u e in
+              record {
+                sender = λ s.
+                    let g = f.sender s in
+                    record { seat = g.seat; put = g.put ∙ sym (put_else l.sent x u.from (λ same. other (same_some j pass (sym g.seat ∙ ap l.seat (sym same) ∙ home)))); below = g.below; arity = g.arity };
+                taker = λ t. taking j u (f.taker t);
+                silent = f.silent;
+                idle = f.idle;
+              });
         },
       ),
       refl,
@@ -160,7 +159,11 @@ not_there views i j u v at s at2 quiet same =
 alive_beside : (l m : Ledger) (views : List MailView) (pass : ℕ) (v w : MailView) (p : ℕ) → get_elem? views pass ≡ some v → v.sends ≡ false → m.seat p ≡ l.seat p → HasPass l views p → HasPass m (set views pass w) p
 alive_beside l m views pass v w p at quiet same a =
     record {
-      pass = a.pass; view = a.view; seat = same ∙ a.seat; sends = a.sends; from = a.from;
+      pass = a.pass;
+      view = a.view;
+      seat = same ∙ a.seat;
+      sends = a.sends;
+      from = a.from;
       there = stays views pass a.pass w a.view (not_there views pass a.pass a.view v a.there a.sends at quiet) a.there;
     }
 
@@ -170,8 +173,7 @@ takes pass v t quiet x items views h at =
     let k = h.1 in
     let f = (k.fits pass v at).taker t in
     let m : Ledger = record l { took = l.took ++ x ∷ [] } in
-    let front = All-head (IsPostedIn l.made l.arity) x items k.posted in
-    (
+    let front = All-head (IsPostedIn l.made l.arity) x items k.posted in (
       popping v x,
       (
         m,
@@ -191,13 +193,13 @@ takes pass v t quiet x items views h at =
                 idle = λ i. absurd (true_false v.takes t i);
               })
               (λ j u other e.
-                  let g = k.fits j u e in
-                  record {
-                    sender = λ s. let q = g.sender s in record { seat = q.seat; put = q.put; below = q.below; arity = q.arity };
-                    taker = λ y. absurd (other ((g.taker y).only ∙ sym f.only));
-                    silent = g.silent;
-                    idle = g.idle;
-                  });
+              let g = k.fits j u e in
+              record {
+                sender = λ s. let q = g.sender s in record { seat = q.seat; put = q.put; below = q.below; arity = q.arity };
+                taker = λ y. absurd (other ((g.taker y).only ∙ sym f.only));
+                silent = g.silent;
+                idle = g.idle;
+              });
         },
       ),
       (refl, (subst (λ n. x.from < n) (sym f.made) front.0, subst (λ a. HasArity a x.parcel) (sym f.arity) front.1)),
@@ -249,26 +251,25 @@ deals pass arity v t quiet first items views h at =
     let free : l.seat v.made ≡ None = (k.later v.made (subst (λ n. l.made ≤ n) (sym f.made) (omega arith))).0 in
     let far : (p : ℕ) → p ≢ v.made → m.seat p ≡ l.seat p = seat_else l.seat v.made (Some (length vs)) in
     let sending : (j : ℕ) (u : MailView) → FitsSender l j u → FitsSender m j u =
-        λ j u g.
-        let low = g.below in
-        record {
-          seat = far u.from (λ same. none_some j (sym free ∙ ap l.seat (sym same) ∙ g.seat)) ∙ g.seat;
-          put = g.put;
-          below = omega arith;
-          arity = elim begun [ inl z ↦ absurd (omega arith) | inr s ↦ g.arity ∙ s ];
-        } in
+    λ j u g.
+    let low = g.below in
+    record {
+      seat = far u.from (λ same. none_some j (sym free ∙ ap l.seat (sym same) ∙ g.seat)) ∙ g.seat;
+      put = g.put;
+      below = omega arith;
+      arity = elim begun [ inl z ↦ absurd (omega arith) | inr s ↦ g.arity ∙ s ];
+    } in
     let old : AllViews (Fits m) vs =
-        all_set (Fits m) views pass left
-            (record {
-              sender = λ s. absurd (true_false v.sends s quiet);
-              taker = λ _. record { only = f.only; took = f.took; made = ap (λ n. n + 1) f.made; arity = refl; gone = f.gone; known = f.known };
-              silent = (k.fits pass v at).silent;
-              idle = λ i. absurd (true_false v.takes t i);
-            })
-            (λ j u other e.
-                let g = k.fits j u e in
-                record { sender = λ s. sending j u (g.sender s); taker = λ y. absurd (other ((g.taker y).only ∙ sym f.only)); silent = g.silent; idle = g.idle }) in
-    (
+    all_set (Fits m) views pass left
+    (record {
+      sender = λ s. absurd (true_false v.sends s quiet);
+      taker = λ _. record { only = f.only; took = f.took; made = ap (λ n. n + 1) f.made; arity = refl; gone = f.gone; known = f.known };
+      silent = (k.fits pass v at).silent;
+      idle = λ i. absurd (true_false v.takes t i);
+    })
+    (λ j u other e.
+    let g = k.fits j u e in
+    record { sender = λ s. sending j u (g.sender s); taker = λ y. absurd (other ((g.taker y).only ∙ sym f.only)); silent = g.silent; idle = g.idle }) in (
       m,
       record {
         delivered = k.delivered;
@@ -289,15 +290,15 @@ deals pass arity v t quiet first items views h at =
         later = λ p le. let same = f.made in let apart : p ≢ v.made = omega arith in (far p apart ∙ (k.later p (omega arith)).0, (k.later p (omega arith)).1);
         gone = let g = k.gone in omega arith;
         fits = λ j u e. elim (snoc_at vs right u j e) [
-            | inl x ↦ old j u x
-            | inr x ↦ subst (λ (y : ℕ × MailView). Fits m y.0 y.1) (λ i. (sym x.0 i, x.1 i))
-                (record {
-                  sender = λ _. let same = f.made in record { seat = seat_here l.seat v.made (Some (length vs)); put = sym (k.later v.made (omega arith)).1; below = omega arith; arity = refl };
-                  taker = λ y. absurd (true_false false y refl);
-                  silent = λ y. absurd (true_false true refl y);
-                  idle = λ _. (refl, refl);
-                })
-          ];
+          | inl x ↦ old j u x
+          | inr x ↦ subst (λ (y : ℕ × MailView). Fits m y.0 y.1) (λ i. (sym x.0 i, x.1 i))
+              (record {
+                sender = λ _. let same = f.made in record { seat = seat_here l.seat v.made (Some (length vs)); put = sym (k.later v.made (omega arith)).1; below = omega arith; arity = refl };
+                taker = λ y. absurd (true_false false y refl);
+                silent = λ y. absurd (true_false true refl y);
+                idle = λ _. (refl, refl);
+              })
+        ];
       },
     )
 
@@ -317,29 +318,28 @@ absorbs pass v other u t quiet s next items views h at two at2 =
     let number : u.from ≡ l.gone = next ∙ f.gone in
     let far : (p : ℕ) → p ≢ u.from → m.seat p ≡ l.seat p = seat_else l.seat u.from None in
     let sending : (j : ℕ) (y : MailView) → j ≢ other → FitsSender l j y → FitsSender m j y =
-        λ j y apart g. record { seat = far y.from (λ same. apart (same_some j other (sym g.seat ∙ ap l.seat same ∙ theirs.seat))) ∙ g.seat; put = g.put; below = g.below; arity = g.arity } in
+    λ j y apart g. record { seat = far y.from (λ same. apart (same_some j other (sym g.seat ∙ ap l.seat same ∙ theirs.seat))) ∙ g.seat; put = g.put; below = g.below; arity = g.arity } in
     let knows : (i : ℕ) → i < l.gone + 1 → get_or (v.known ++ u.put ∷ []) i [] ≡ l.sent i =
-        λ i lt. let len = f.gone in
-        elim (cases_lt i l.gone) [
-          | inl low ↦ get_or_append_left v.known (u.put ∷ []) [] i (omega arith) ∙ f.known i low
-          | inr ge ↦
-              let last : i ≡ length v.known = omega arith in
-              ap (λ j. get_or (v.known ++ u.put ∷ []) j []) last ∙ get_or-append_seam v.known u.put [] [] ∙ theirs.put ∙ ap l.sent (next ∙ sym last)
-        ] in
+    λ i lt. let len = f.gone in
+    elim (cases_lt i l.gone) [
+      | inl low ↦ get_or_append_left v.known (u.put ∷ []) [] i (omega arith) ∙ f.known i low
+      | inr ge ↦
+          let last : i ≡ length v.known = omega arith in
+          ap (λ j. get_or (v.known ++ u.put ∷ []) j []) last ∙ get_or-append_seam v.known u.put [] [] ∙ theirs.put ∙ ap l.sent (next ∙ sym last)
+    ] in
     let now : (j : ℕ) (y : MailView) → j ≢ other → get_elem? vs j ≡ some y → Fits m j y =
-        λ j y apart e. elim (at_set views pass j both y e) [
-          | inl x ↦ subst (λ (z : ℕ × MailView). Fits m z.0 z.1) (λ i. (sym x.0 i, x.1 i))
-              (record {
-                sender = λ q. absurd (true_false v.sends q quiet);
-                taker = λ _. record { only = f.only; took = f.took; made = f.made; arity = f.arity; gone = let len = f.gone in omega (arith, length-append v.known (u.put ∷ [])); known = knows };
-                silent = (k.fits pass v at).silent;
-                idle = λ i. absurd (true_false v.takes t i);
-              })
-          | inr x ↦
-              let g = k.fits j y x.1 in
-              record { sender = λ q. sending j y apart (g.sender q); taker = λ q. absurd (x.0 ((g.taker q).only ∙ sym f.only)); silent = g.silent; idle = g.idle }
-        ] in
-    (
+    λ j y apart e. elim (at_set views pass j both y e) [
+      | inl x ↦ subst (λ (z : ℕ × MailView). Fits m z.0 z.1) (λ i. (sym x.0 i, x.1 i))
+          (record {
+            sender = λ q. absurd (true_false v.sends q quiet);
+            taker = λ _. record { only = f.only; took = f.took; made = f.made; arity = f.arity; gone = let len = f.gone in omega (arith, length-append v.known (u.put ∷ [])); known = knows };
+            silent = (k.fits pass v at).silent;
+            idle = λ i. absurd (true_false v.takes t i);
+          })
+      | inr x ↦
+          let g = k.fits j y x.1 in
+          record { sender = λ q. sending j y apart (g.sender q); taker = λ q. absurd (x.0 ((g.taker q).only ∙ sym f.only)); silent = g.silent; idle = g.idle }
+    ] in (
       m,
       record {
         delivered = k.delivered;
@@ -368,18 +368,18 @@ absorbs pass v other u t quiet s next items views h at two at2 =
 pub begins : Mails [] (maker ∷ [])
 unfolding of_sender
 begins = (
-    record { taker = 0; seat = λ _. None; sent = λ _. []; took = []; made = 0; gone = 0; arity = 0 },
-    record {
-      delivered = λ p. refl;
-      words = λ p. (Open ∷ Close ∷ [], tt);
-      posted = All-nil (IsPostedIn 0 0);
-      alive = λ p le lt. absurd (omega arith);
-      ended = λ p lt. refl;
-      later = λ p le. (refl, refl);
-      gone = omega arith;
-      fits = only;
-    },
-  )
+  record { taker = 0; seat = λ _. None; sent = λ _. []; took = []; made = 0; gone = 0; arity = 0 },
+  record {
+    delivered = λ p. refl;
+    words = λ p. (Open ∷ Close ∷ [], tt);
+    posted = All-nil (IsPostedIn 0 0);
+    alive = λ p le lt. absurd (omega arith);
+    ended = λ p lt. refl;
+    later = λ p le. (refl, refl);
+    gone = omega arith;
+    fits = only;
+  },
+)
   where
     only : (pass : ℕ) (v : MailView) → get_elem? (maker ∷ []) pass ≡ some v → Fits (record { taker = 0; seat = λ _. None; sent = λ _. []; took = []; made = 0; gone = 0; arity = 0 }) pass v
     only zero v e = subst (Fits (record { taker = 0; seat = λ _. None; sent = λ _. []; took = []; made = 0; gone = 0; arity = 0 }) 0) (some-injective maker v e)
@@ -416,7 +416,7 @@ held_is items views h i t at p =
 pub sender_on : (number : ℕ) (word after : WriterState) (v w : MailView) (x : Posted) → w ≡ pushing v x → IsSender number word v → may word x.parcel ≡ true → after ≡ next word x.parcel → IsSender number after w
 sender_on number word after v w x is s fits on =
     subst (IsSender number after) (sym is)
-        (record { sends = s.sends; takes = s.takes; from = s.from; leads = leads_on Initial word after v.put (x.parcel ∷ []) s.leads (fits, on) })
+    (record { sends = s.sends; takes = s.takes; from = s.from; leads = leads_on Initial word after v.put (x.parcel ∷ []) s.leads (fits, on) })
 
 -- once all senders were taken in, and each one's Close was taken, what was taken of each is what it put
 pub settles : (senders : List SendState) (took items : List Posted) (known : List (List Parcel)) → known ≡ map (λ (s : SendState). s.put) senders

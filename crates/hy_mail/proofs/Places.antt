@@ -104,10 +104,10 @@ pub put_told : (boxes : List MailboxState) (xs : List (ℕ × SendState)) (m k :
 put_told boxes xs m k x b y p A.Put h there e box is =
     change_is (λ s. putting s p) xs m k x.0 y x h (ap (λ (z : ℕ × SendState). z.0) e) (is ∙ ap (λ (z : ℕ × SendState). putting z.1 p) e)
 put_told boxes xs m k x b y p (A.Full back) h there e box is = (
-    is.0,
-    record { box = b; pass = x.1; is_box = box; is_pass = record { there = there; is = first_is (λ s. s) x.1 xs m k x h ∙ ap (λ (z : ℕ × SendState). z.1) (sym e) }; full = is.1 },
-    change_is refused_put xs m k x.0 y x h (ap (λ (z : ℕ × SendState). z.0) e) (is.2 ∙ ap (λ (z : ℕ × SendState). refused_put z.1) e),
-  )
+  is.0,
+  record { box = b; pass = x.1; is_box = box; is_pass = record { there = there; is = first_is (λ s. s) x.1 xs m k x h ∙ ap (λ (z : ℕ × SendState). z.1) (sym e) }; full = is.1 },
+  change_is refused_put xs m k x.0 y x h (ap (λ (z : ℕ × SendState). z.0) e) (is.2 ∙ ap (λ (z : ℕ × SendState). refused_put z.1) e),
+)
 
 still_taken : (b : MailboxState) (s t : TakeState) (r : Option (ℕ × Parcel)) → IsTakeOf b s → TellsMailTake s t r → IsTakeOf b t
 still_taken b s t (Some x) h is = subst (IsTakeOf b) (sym is.0) (record { mailbox = h.mailbox; senders = h.senders; arity = h.arity })
@@ -123,14 +123,14 @@ take_seated boxes xs m k x y r all h e is =
 pub take_told : (boxes : List MailboxState) (xs : List (ℕ × TakeState)) (m k : ℕ) (x : ℕ × TakeState) (b : MailboxState) (y : TakeState) (r : Option (ℕ × Parcel))
     → IsPlace xs m k → has xs m ≡ true → x ≡ get_or xs k x → IsBoxAt boxes m b → IsTakeOf b x.1 → TellsMailTake x.1 y r → TellsTakeAt boxes m xs (set xs k (x.0, y)) r
 take_told boxes xs m k x b y (Some t) h there e box mine is = (
-    change_is (λ s. taking s t.0 t.1) xs m k x.0 y x h (ap (λ (z : ℕ × TakeState). z.0) e) (is.0 ∙ ap (λ (z : ℕ × TakeState). taking z.1 t.0 t.1) e),
-    subst (λ n. t.0 < n) (mine.senders ∙ sym (senders_is boxes m b box)) is.1,
-    subst (λ n. HasArity n t.1) (mine.arity ∙ sym (arity_is boxes m b box)) is.2,
-  )
+  change_is (λ s. taking s t.0 t.1) xs m k x.0 y x h (ap (λ (z : ℕ × TakeState). z.0) e) (is.0 ∙ ap (λ (z : ℕ × TakeState). taking z.1 t.0 t.1) e),
+  subst (λ n. t.0 < n) (mine.senders ∙ sym (senders_is boxes m b box)) is.1,
+  subst (λ n. HasArity n t.1) (mine.arity ∙ sym (arity_is boxes m b box)) is.2,
+)
 take_told boxes xs m k x b y None h there e box mine is = (
-    record { pass = x.1; is_pass = record { there = there; is = first_is (λ s. s) x.1 xs m k x h ∙ ap (λ (z : ℕ × TakeState). z.1) (sym e) }; empty = is.0 },
-    change_is refused_take xs m k x.0 y x h (ap (λ (z : ℕ × TakeState). z.0) e) (is.1 ∙ ap (λ (z : ℕ × TakeState). refused_take z.1) e),
-  )
+  record { pass = x.1; is_pass = record { there = there; is = first_is (λ s. s) x.1 xs m k x h ∙ ap (λ (z : ℕ × TakeState). z.1) (sym e) }; empty = is.0 },
+  change_is refused_take xs m k x.0 y x h (ap (λ (z : ℕ × TakeState). z.0) e) (is.1 ∙ ap (λ (z : ℕ × TakeState). refused_take z.1) e),
+)
 
 -- ---- what the code finds on its way
 

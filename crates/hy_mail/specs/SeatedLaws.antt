@@ -56,10 +56,10 @@ has_same change (x ∷ xs) k m =
 pub port_words : (p q : PortState) (e : Event) (m : ℕ) → PortStep p e q → word_at q.sends m ≡ word_after e m (word_at p.sends m)
 port_words p q (Put k x) m h = ap (λ (r : PortState). word_at r.sends m) h.is
     ∙ elim (cases_Bool (k == m)) [
-        | inl y ↦ rw y (subst (λ j. word_at (change_at (λ s. putting s x) p.sends k) j ≡ next (word_at p.sends j) x) (eqb-true k m y)
-              (shown_here (λ (s : SendState). s.word) Initial (λ s. putting s x) (λ w. next w x) (λ s. refl) p.sends k h.there))
-        | inr n ↦ rw n (shown_other (λ (s : SendState). s.word) Initial (λ s. putting s x) p.sends k m n)
-      ]
+      | inl y ↦ rw y (subst (λ j. word_at (change_at (λ s. putting s x) p.sends k) j ≡ next (word_at p.sends j) x) (eqb-true k m y)
+          (shown_here (λ (s : SendState). s.word) Initial (λ s. putting s x) (λ w. next w x) (λ s. refl) p.sends k h.there))
+      | inr n ↦ rw n (shown_other (λ (s : SendState). s.word) Initial (λ s. putting s x) p.sends k m n)
+    ]
 port_words p q (Took k from x) m h = ap (λ (r : PortState). word_at r.sends m) h.is
 port_words p q Raise m h = ap (λ (r : PortState). word_at r.sends m) h.is
 port_words p q (Look seen) m h = ap (λ (r : PortState). word_at r.sends m) h.is
@@ -90,16 +90,16 @@ port_counts p q Raise m h = ap (λ (r : PortState). refused_at r.sends r.takes m
 port_counts p q (Look seen) m h = ap (λ (r : PortState). refused_at r.sends r.takes m) h.is
 port_counts p q (Full k) m h = ap (λ (r : PortState). refused_at r.sends r.takes m) h.is
     ∙ elim (cases_Bool (k == m)) [
-        | inl y ↦ rw y (subst (λ j. refused_at (change_at refused_put p.sends k) p.takes j ≡ one_more (refused_at p.sends p.takes j)) (eqb-true k m y)
-              (ap (λ a. both a (empties p.takes k)) (shown_here (λ (s : SendState). s.refused) 0 refused_put one_more (λ s. refl) p.sends k h.there) ∙ one_more_left (fulls p.sends k) (empties p.takes k)))
-        | inr n ↦ rw n (ap (λ a. both a (empties p.takes m)) (shown_other (λ (s : SendState). s.refused) 0 refused_put p.sends k m n))
-      ]
+      | inl y ↦ rw y (subst (λ j. refused_at (change_at refused_put p.sends k) p.takes j ≡ one_more (refused_at p.sends p.takes j)) (eqb-true k m y)
+          (ap (λ a. both a (empties p.takes k)) (shown_here (λ (s : SendState). s.refused) 0 refused_put one_more (λ s. refl) p.sends k h.there) ∙ one_more_left (fulls p.sends k) (empties p.takes k)))
+      | inr n ↦ rw n (ap (λ a. both a (empties p.takes m)) (shown_other (λ (s : SendState). s.refused) 0 refused_put p.sends k m n))
+    ]
 port_counts p q (Empty k) m h = ap (λ (r : PortState). refused_at r.sends r.takes m) h.is
     ∙ elim (cases_Bool (k == m)) [
-        | inl y ↦ rw y (subst (λ j. refused_at p.sends (change_at refused_take p.takes k) j ≡ one_more (refused_at p.sends p.takes j)) (eqb-true k m y)
-              (ap (λ b. both (fulls p.sends k) b) (shown_here (λ (t : TakeState). t.refused) 0 refused_take one_more (λ t. refl) p.takes k h.there) ∙ one_more_right (fulls p.sends k) (empties p.takes k)))
-        | inr n ↦ rw n (ap (λ b. both (fulls p.sends m) b) (shown_other (λ (t : TakeState). t.refused) 0 refused_take p.takes k m n))
-      ]
+      | inl y ↦ rw y (subst (λ j. refused_at p.sends (change_at refused_take p.takes k) j ≡ one_more (refused_at p.sends p.takes j)) (eqb-true k m y)
+          (ap (λ b. both (fulls p.sends k) b) (shown_here (λ (t : TakeState). t.refused) 0 refused_take one_more (λ t. refl) p.takes k h.there) ∙ one_more_right (fulls p.sends k) (empties p.takes k)))
+      | inr n ↦ rw n (ap (λ b. both (fulls p.sends m) b) (shown_other (λ (t : TakeState). t.refused) 0 refused_take p.takes k m n))
+    ]
 
 -- ---- what stays
 
@@ -124,8 +124,7 @@ passes_stay p q (Empty k) m h = (ap (λ (r : PortState). has r.sends m) h.is, ap
 
 pub port_roles : (p q : PortState) (e : Event) → PortStep p e q → ((m : ℕ) → SendsAt p m → SendsAt q m) × ((m : ℕ) → ReceivesAt p m → ReceivesAt q m)
 port_roles p q e h =
-    let long = ap length (port_kept p q e h).0 in
-    (
+    let long = ap length (port_kept p q e h).0 in (
       (λ m s. (subst (λ n. m < n) (sym long) s.0, (passes_stay p q e m h).0 ∙ s.1)),
       (λ m s. (subst (λ n. m < n) (sym long) s.0, (passes_stay p q e m h).1 ∙ s.1)),
     )
