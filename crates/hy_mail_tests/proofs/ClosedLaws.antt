@@ -1,6 +1,7 @@
 -- Which senders' Close was taken, once a parcel more was.
-use Rattle.std.proofs.Common.{◌≡◌, ◌<◌, ◌+◌, ℕ, Bool, true, List, [], ◌∷◌, ◌++◌, length, get_or, refl, sym, ap, ◌∙◌, subst, arith, eq-eqb, length-append}
+use Rattle.std.proofs.Common.{◌≡◌, ◌<◌, ◌+◌, ℕ, Bool, true, List, [], ◌∷◌, ◌++◌, length, get_or, refl, sym, ap, ◌∙◌, subst, inl, inr, arith, eq-eqb, length-append}
 use Rattle.std.specs.List.{Contains}
+use Rattle.std.proofs.lemmas.Bool.{cases_lt}
 use Rattle.std.proofs.lemmas.List.{get_or_append_left}
 use Rattle.std.proofs.Math.Seq.{get_or-append_seam}
 use Rattle.hy_mail.specs.declared.parcel.Parcel.{Parcel}
@@ -41,3 +42,11 @@ pub second_closes : (old new : TakeState) (s : ℕ) (p : Parcel) (a b : Bool) �
 second_closes old new s p a b is one closed h =
     let at : new ≡ taking old 1 Close = is ∙ (λ i. taking old (one i) (closed i)) in
     ((one_more old new s p a b is h).0, λ _. closes old new 1 at)
+
+-- of two senders both have closed
+pub all_closed : (took : List Posted) (n : ℕ) → n ≡ 2 → HasClosed took true true → (k : ℕ) → k < n → Contains (of_sender k took) Close
+all_closed took n two h k lt =
+    elim (cases_lt k 1) [
+      | inl low ↦ let zero_is : 0 ≡ k = omega arith in subst (λ j. Contains (of_sender j took) Close) zero_is (h.0 refl)
+      | inr high ↦ let one_is : 1 ≡ k = omega arith in subst (λ j. Contains (of_sender j took) Close) one_is (h.1 refl)
+    ]
