@@ -16,7 +16,7 @@ use Rattle.hy_mail.specs.Words.{HasArity, may, next}
 -- ---- a change of the first pass of a mailbox
 
 -- what the change leaves as it was is shown as it was
-shown_same : {A B : Type 0} (show : A → B) (none : B) (change : A → A) → ((x : A) → show (change x) ≡ show x) → (xs : List (ℕ × A)) (k m : ℕ) → first_at show none (change_at change xs k) m ≡ first_at show none xs m
+pub shown_same : {A B : Type 0} (show : A → B) (none : B) (change : A → A) → ((x : A) → show (change x) ≡ show x) → (xs : List (ℕ × A)) (k m : ℕ) → first_at show none (change_at change xs k) m ≡ first_at show none xs m
 shown_same show none change same [] k m = refl
 shown_same show none change same (x ∷ xs) k m =
     elim (cases_Bool (x.0 == k)) [
@@ -25,7 +25,7 @@ shown_same show none change same (x ∷ xs) k m =
     ]
 
 -- at another mailbox all is as it was
-shown_other : {A B : Type 0} (show : A → B) (none : B) (change : A → A) (xs : List (ℕ × A)) (k m : ℕ) → (k == m) ≡ false → first_at show none (change_at change xs k) m ≡ first_at show none xs m
+pub shown_other : {A B : Type 0} (show : A → B) (none : B) (change : A → A) (xs : List (ℕ × A)) (k m : ℕ) → (k == m) ≡ false → first_at show none (change_at change xs k) m ≡ first_at show none xs m
 shown_other show none change [] k m apart = refl
 shown_other show none change (x ∷ xs) k m apart =
     elim (cases_Bool (x.0 == k)) [
@@ -34,7 +34,7 @@ shown_other show none change (x ∷ xs) k m apart =
     ]
 
 -- and at its own the change is shown
-shown_here : {A B : Type 0} (show : A → B) (none : B) (change : A → A) (grow : B → B) → ((x : A) → show (change x) ≡ grow (show x)) → (xs : List (ℕ × A)) (k : ℕ) → has xs k ≡ true
+pub shown_here : {A B : Type 0} (show : A → B) (none : B) (change : A → A) (grow : B → B) → ((x : A) → show (change x) ≡ grow (show x)) → (xs : List (ℕ × A)) (k : ℕ) → has xs k ≡ true
     → first_at show none (change_at change xs k) k ≡ grow (first_at show none xs k)
 shown_here show none change grow is [] k there = absurd (false_true there)
 shown_here show none change grow is (x ∷ xs) k there =
