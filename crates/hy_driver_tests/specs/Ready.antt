@@ -1,5 +1,5 @@
 -- What tests know of a driver between its calls.
-use Rattle.std.specs.Prelude.{◌≡◌, ℕ}
+use Rattle.std.specs.Prelude.{◌≡◌}
 use Rattle.hy_frame.specs.Bank.{BankOf}
 use Rattle.hy_driver.specs.Seen.{Seen}
 use Rattle.hy_driver.specs.Steps.{HasRoom, IsBankOf}

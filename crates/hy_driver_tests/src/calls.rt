@@ -1,5 +1,5 @@
 //! Calls of a driver of one input, with the answers that a test wants.
-ghost use Rattle.std.specs.Prelude.{◌≡◌, ◌≢◌, length, true, false, ℕ, OnOk};
+ghost use Rattle.std.specs.Prelude.{◌≡◌, ◌≢◌, length, false, OnOk};
 ghost use Rattle.hy_driver_tests.specs.Ready.{IsReady};
 
 use hy_driver::{Driver, Phase};
@@ -14,7 +14,7 @@ pub(crate) fn asks<D: Driver>(driver: &mut D, bank: &mut Bank, out: &mut RowBuf)
     requires ready { IsReady (D.seen driver.old) bank.old }
     ensures ready { OnOk result (IsReady (D.seen driver.new) bank.new) }
     ensures phase { OnOk result ((D.seen driver.new).phase ≡ Phase.Hungry) }
-    ensures inputs { OnOk result ((k : ℕ) → (D.seen driver.new).ended k ≡ (D.seen driver.old).ended k) }
+    ensures input { OnOk result ((D.seen driver.new).ended 0 ≡ (D.seen driver.old).ended 0) }
 {
     match driver.next(bank, out)? {
         Next::NeedInput => Ok(()),
@@ -31,7 +31,7 @@ pub(crate) fn takes<D: Driver>(driver: &mut D, bank: &mut Bank, row: &RowBuf) ->
     requires ready { IsReady (D.seen driver.old) bank.old }
     ensures ready { OnOk result (IsReady (D.seen driver.new) bank.new) }
     ensures phase { OnOk result ((D.seen driver.new).phase ≡ Phase.Working) }
-    ensures inputs { OnOk result ((k : ℕ) → (D.seen driver.new).ended k ≡ (D.seen driver.old).ended k) }
+    ensures input { OnOk result ((D.seen driver.new).ended 0 ≡ (D.seen driver.old).ended 0) }
 {
     driver.feed(bank, 0, row.as_row())?;
     Ok(())
@@ -39,12 +39,16 @@ pub(crate) fn takes<D: Driver>(driver: &mut D, bank: &mut Bank, row: &RowBuf) ->
 
 /// It gives a row.
 #[tactic(auto, using(crate::proofs::ReadyLaws::ready_again))]
-pub(crate) fn gives<D: Driver>(driver: &mut D, bank: &mut Bank, out: &mut RowBuf) -> Result<(), Fail>
+pub(crate) fn gives<D: Driver>(
+    driver: &mut D,
+    bank: &mut Bank,
+    out: &mut RowBuf,
+) -> Result<(), Fail>
     requires going { (D.seen driver.old).phase ≢ Phase.GivenUp }
     requires ready { IsReady (D.seen driver.old) bank.old }
     ensures ready { OnOk result (IsReady (D.seen driver.new) bank.new) }
     ensures phase { OnOk result ((D.seen driver.new).phase ≡ Phase.Working) }
-    ensures inputs { OnOk result ((k : ℕ) → (D.seen driver.new).ended k ≡ (D.seen driver.old).ended k) }
+    ensures input { OnOk result ((D.seen driver.new).ended 0 ≡ (D.seen driver.old).ended 0) }
 {
     match driver.next(bank, out)? {
         Next::Row => Ok(()),
@@ -67,7 +71,11 @@ pub(crate) fn ends_input<D: Driver>(driver: &mut D, bank: &mut Bank) -> Result<(
 
 /// It has ended.
 #[tactic(auto, using(crate::proofs::ReadyLaws::ready_again))]
-pub(crate) fn is_over<D: Driver>(driver: &mut D, bank: &mut Bank, out: &mut RowBuf) -> Result<(), Fail>
+pub(crate) fn is_over<D: Driver>(
+    driver: &mut D,
+    bank: &mut Bank,
+    out: &mut RowBuf,
+) -> Result<(), Fail>
     requires going { (D.seen driver.old).phase ≢ Phase.GivenUp }
     requires ready { IsReady (D.seen driver.old) bank.old }
     ensures ready { OnOk result (IsReady (D.seen driver.new) bank.new) }

@@ -6,9 +6,7 @@ ghost use Rattle.hy_driver_tests.specs.Ready.{IsReady};
 use crate::calls::{asks, ends_input, gives, gives_up, is_over, takes};
 use crate::no_store::NoStore;
 use al_value::Settings;
-use hy_driver::{
-    Handed, HandsOn, KeepRows, PassRows, Phase, driver_cases, driver_laws, row_laws,
-};
+use hy_driver::{Handed, HandsOn, KeepRows, PassRows, Phase, driver_cases, driver_laws, row_laws};
 use hy_frame::{Bank, Counts, RowBuf, is_field};
 use std::alloc::Global;
 use std::test::Fail;
