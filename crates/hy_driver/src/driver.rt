@@ -1,6 +1,6 @@
 //! What an operator is.
 
-ghost use Rattle.std.specs.Prelude.{◌≡◌, ◌≢◌, ◌+◌, ◌≤◌, [], length, true, false, ℕ, IfOk, OnOk};
+ghost use Rattle.std.specs.Prelude.{◌≡◌, ◌≢◌, ◌+◌, ◌≤◌, length, false, ℕ, OnOk};
 ghost use Rattle.hy_store.specs.Fields.{fields_of};
 ghost use Rattle.hy_driver.specs.Rows.{Row, AreValues};
 ghost use Rattle.hy_driver.specs.Steps.{GivesUp, HasRoom, IsBankOf, Lent, TellsEnded, TellsFed, TellsNext, ended_with};

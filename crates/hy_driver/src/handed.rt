@@ -1,6 +1,6 @@
 //! How a driver with something to leave is ended.
 
-ghost use Rattle.std.specs.Prelude.{◌≡◌, [], length};
+ghost use Rattle.std.specs.Prelude.{◌≡◌, []};
 ghost use Rattle.hy_driver.specs.Handing.{HandedOn, IsDone, Left, store_of};
 ghost use Rattle.hy_driver.specs.Steps.{IsBankOf};
 
@@ -11,7 +11,8 @@ use hy_store::RunStore;
 use std::alloc::Global;
 
 /// What the first driver of an operator leaves to the second one, which is made of it: rows beside
-/// the bank, frames on their way, and runs of the store that comes with it.
+/// the bank, frames on their way, and runs of the store that comes with it. Whoever is made of it
+/// hands it back where memory is wanting.
 #[derive(Drop)]
 pub struct Handed {
     pub rows: List<RowBuf>,

@@ -1,7 +1,6 @@
 //! The laws of drivers, and worked cases.
 
-ghost use Rattle.std.specs.Prelude.{ℕ, List};
-ghost use Rattle.hy_driver.specs.Rows.{Fed, FieldsAgain, Row, ValuesAgain};
+ghost use Rattle.hy_driver.specs.Rows.{FieldsAgain, ValuesAgain};
 ghost use Rattle.hy_driver.specs.Laws.{ComesThen, EndedComes, FedComes, LentAgain, NoneComes, StepsThen, TurnedComes, WholeRun};
 ghost use Rattle.hy_driver.specs.Cases.{AskingTurns, ChecksFail, ChecksTest, EndsAtTheEnd, ExportsCount, FieldsHaveValues, FramesCount, GivesWhatItHolds, HandedInOrder, RowsThatCome, RunsAreLeft, RunsAreMade};
 

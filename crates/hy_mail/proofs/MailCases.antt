@@ -111,16 +111,16 @@ three_cases P a b c p =
     elim (cases_Bool (p == 0)) [
       | inl y ↦ subst P (sym (eqb-true p 0 y)) a
       | inr n ↦ elim (cases_Bool (p == 1)) [
-          | inl y ↦ subst P (sym (eqb-true p 1 y)) b
-          | inr m ↦ c p (turned 0 p n) (turned 1 p m) n m
-        ]
+        | inl y ↦ subst P (sym (eqb-true p 1 y)) b
+        | inr m ↦ c p (turned 0 p n) (turned 1 p m) n m
+      ]
     ]
   where
     turned : (i p : ℕ) → (p == i) ≡ false → (i == p) ≡ false
     turned i p n = elim (cases_Bool (i == p)) [
-        | inl y ↦ absurd (true_false (sym (subst (λ j. (j == i) ≡ true) (eqb-true i p y) (eq-eqb i i refl)) ∙ n))
-        | inr m ↦ m
-      ]
+      | inl y ↦ absurd (true_false (sym (subst (λ j. (j == i) ≡ true) (eqb-true i p y) (eq-eqb i i refl)) ∙ n))
+      | inr m ↦ m
+    ]
 
 fits : (pass : ℕ) (v : MailView) → get_elem? views pass ≡ some v → Fits ledger pass v
 fits zero v e = subst (Fits ledger 0) (some-injective (taker_of 2 took) v e)
@@ -158,18 +158,18 @@ alive = three_cases (λ p. p < 2 → HasPass ledger views p)
 pub put_is_taken_then_held : C.PutIsTakenThenHeld
 unfolding of_sender
 put_is_taken_then_held = (
-    ledger,
-    record {
-      delivered = three_cases (λ p. of_sender p (posted 0 Open ∷ posted 1 Open ∷ posted 0 Close ∷ []) ≡ put_by p) refl refl (λ p a b n m. rw (a, b, n, m) refl);
-      words = three_cases (λ p. IsWordSoFar (put_by p)) ([], tt) (Close ∷ [], tt) (λ p a b n m. rw (n, m) (Open ∷ Close ∷ [], tt));
-      posted = All-cons (IsPostedIn 2 3) (posted 1 Open) (posted 0 Close ∷ []) (omega arith, tt) (All-cons (IsPostedIn 2 3) (posted 0 Close) [] (omega arith, tt) (All-nil (IsPostedIn 2 3)));
-      alive = λ p le lt. alive p lt;
-      ended = λ p lt. absurd (omega arith);
-      later = three_cases (λ p. 2 ≤ p → (seat_of_two p ≡ None) × (put_by p ≡ [])) (λ le. absurd (omega arith)) (λ le. absurd (omega arith)) (λ p a b n m le. rw (n, m) (refl, refl));
-      gone = omega arith;
-      fits = fits;
-    },
-  )
+  ledger,
+  record {
+    delivered = three_cases (λ p. of_sender p (posted 0 Open ∷ posted 1 Open ∷ posted 0 Close ∷ []) ≡ put_by p) refl refl (λ p a b n m. rw (a, b, n, m) refl);
+    words = three_cases (λ p. IsWordSoFar (put_by p)) ([], tt) (Close ∷ [], tt) (λ p a b n m. rw (n, m) (Open ∷ Close ∷ [], tt));
+    posted = All-cons (IsPostedIn 2 3) (posted 1 Open) (posted 0 Close ∷ []) (omega arith, tt) (All-cons (IsPostedIn 2 3) (posted 0 Close) [] (omega arith, tt) (All-nil (IsPostedIn 2 3)));
+    alive = λ p le lt. alive p lt;
+    ended = λ p lt. absurd (omega arith);
+    later = three_cases (λ p. 2 ≤ p → (seat_of_two p ≡ None) × (put_by p ≡ [])) (λ le. absurd (omega arith)) (λ le. absurd (omega arith)) (λ p a b n m le. rw (n, m) (refl, refl));
+    gone = omega arith;
+    fits = fits;
+  },
+)
 
 -- ---- ports
 

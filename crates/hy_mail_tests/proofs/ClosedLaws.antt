@@ -22,16 +22,16 @@ pub one_more : (old new : TakeState) (s : ℕ) (p : Parcel) (a b : Bool) → new
 one_more old new s p a b is h =
     let x : Posted = record { from = s; parcel = p } in
     subst (λ (t : TakeState). HasClosed t.took a b) (sym is) (
-        (λ e. subst (λ l. Contains l Close) (sym (of_append 0 old.took (x ∷ []))) (stays_in (of_sender 0 old.took) (of_sender 0 (x ∷ [])) (h.0 e))),
-        λ e. subst (λ l. Contains l Close) (sym (of_append 1 old.took (x ∷ []))) (stays_in (of_sender 1 old.took) (of_sender 1 (x ∷ [])) (h.1 e)),
-      )
+      (λ e. subst (λ l. Contains l Close) (sym (of_append 0 old.took (x ∷ []))) (stays_in (of_sender 0 old.took) (of_sender 0 (x ∷ [])) (h.0 e))),
+      λ e. subst (λ l. Contains l Close) (sym (of_append 1 old.took (x ∷ []))) (stays_in (of_sender 1 old.took) (of_sender 1 (x ∷ [])) (h.1 e)),
+    )
 
 closes : (old new : TakeState) (s : ℕ) → new ≡ taking old s Close → Contains (of_sender s new.took) Close
 unfolding of_sender
 closes old new s is =
     let own : of_sender s (record { from = s; parcel = Close } ∷ []) ≡ Close ∷ [] = let t = eq-eqb s s refl in rw t refl in
     subst (λ (t : TakeState). Contains (of_sender s t.took) Close) (sym is)
-        (subst (λ l. Contains l Close) (sym (of_append s old.took (record { from = s; parcel = Close } ∷ []) ∙ ap (λ l. of_sender s old.took ++ l) own)) (comes_in (of_sender s old.took)))
+    (subst (λ l. Contains l Close) (sym (of_append s old.took (record { from = s; parcel = Close } ∷ []) ∙ ap (λ l. of_sender s old.took ++ l) own)) (comes_in (of_sender s old.took)))
 
 pub first_closes : (old new : TakeState) (s : ℕ) (p : Parcel) (a b : Bool) → new ≡ taking old s p → s ≡ 0 → p ≡ Close → HasClosed old.took a b → HasClosed new.took true b
 first_closes old new s p a b is zero closed h =

@@ -1,0 +1,9 @@
+//! Tests of drivers.
+#![tactic(auto)]
+
+#[cfg(test)]
+mod calls;
+#[cfg(test)]
+mod drivers;
+#[cfg(test)]
+mod no_store;
