@@ -1,6 +1,5 @@
 use al_io::{MemSink, MemSource};
-use al_plan::Refused;
-use al_query::{CompileFault, Status, compile, plain_command};
+use al_query::{Status, compile, plain_command};
 use std::alloc::Global;
 use std::test::Fail;
 
@@ -39,18 +38,18 @@ fn answer(alloc: Global, plan: &str) -> Result<(Status, MemSink), Fail> {
     Ok((status, out))
 }
 
-/// The byte of the plan at which it is refused, where it is.
-fn refused_at(alloc: Global, plan: &str) -> Option<u32> {
+/// Why the plan is refused, as a user may be told; nothing where it isn't.
+fn refusal(alloc: Global, plan: &str) -> Result<String, Fail> {
     match compile(alloc, plan.as_bytes(), 4) {
-        Err(CompileFault::Refused(Refused { kind: _, place })) => Some(place),
-        _ => None,
+        Err(fault) => Ok(fault.to_string(alloc)?),
+        Ok(_) => Ok(String::new(alloc)),
     }
 }
 
-/// How many activities the job on 4 partitions has.
-fn activities(alloc: Global, plan: &str) -> Option<usize> {
+/// How many times the job on 4 partitions has to end one activity before it begins another.
+fn blocks(alloc: Global, plan: &str) -> Option<usize> {
     match compile(alloc, plan.as_bytes(), 4) {
-        Ok(compiled) => Some(compiled.job.activities.len()),
+        Ok(compiled) => Some(compiled.job.blocks.len()),
         Err(_) => None,
     }
 }
@@ -68,18 +67,24 @@ fn a_question_is_answered(rt: HostRuntime) -> Result<(), Fail> {
 #[test]
 fn a_question_becomes_a_job(rt: HostRuntime) -> Result<(), Fail> {
     let plan = Question { department: "Y" }.plan(rt.alloc())?;
-    // scan, select, the parts of the sum, their sum, the result
-    assert_eq!(&rt; activities(rt.alloc(), plan.as_str()), Some(5));
+    // the parts of the sum are summed up as they come
+    assert_eq!(&rt; blocks(rt.alloc(), plan.as_str()), Some(0));
     Ok(())
 }
 
 #[test]
 fn a_department_that_ends_its_quote_is_refused(rt: HostRuntime) -> Result<(), Fail> {
-    let plan = Question { department: "X\" \"Y" }.plan(rt.alloc())?;
+    let plan = Question {
+        department: "X\" \"Y",
+    }
+    .plan(rt.alloc())?;
     let (status, out) = answer(rt.alloc(), plan.as_str())?;
     assert_eq!(&rt; status.code(), 2);
     assert!(&rt; out.bytes().is_empty());
-    // the byte of the select, whose `eq` has three arguments
-    assert_eq!(&rt; refused_at(rt.alloc(), plan.as_str()), Some(123));
+    // the byte is that of the select, whose `eq` has three arguments
+    assert_eq!(&rt;
+        refusal(rt.alloc(), plan.as_str())?.as_str(),
+        "plan refused: WrongArity at 123"
+    );
     Ok(())
 }

@@ -1,5 +1,5 @@
 -- What reading and accepting a text tells of compiling it, and of the command that asked for it.
-use Rattle.std.proofs.Common.{◌≡◌, List, Option, Some, None, Result, Ok, Err, refl, ap, inl, inr}
+use Rattle.std.proofs.Common.{◌≡◌, List, Option, Some, None, Result, Ok, Err, refl, ap, subst, inl, inr}
 use Rattle.std.specs.Prelude.{◌⊎◌}
 use Rattle.al_io.specs.Outside.{Bytes}
 use Rattle.al_plan.specs.declared.file.PlanFile.{PlanFile}
@@ -10,9 +10,8 @@ use Rattle.al_read.specs.Reads.{Reads, Refuses as ReadRefuses}
 use Rattle.al_query.specs.declared.compiler.Compiled.{Compiled}
 use Rattle.al_query.specs.declared.fault.CompileFault.{CompileFault}
 use Rattle.al_query.specs.declared.fault.CompileFault.TheVariants as F
-use Rattle.al_query.specs.Compiles.{TellsAccepted, TellsPlanText, TellsRead, status_of, unread_fault}
+use Rattle.al_query.specs.Compiles.{TellsAccepted, TellsPlanText, TellsRead, unread_fault}
 use Rattle.al_query.specs.Served.{IsPlan, IsPlanRefused, unread, unaccepted}
-use Rattle.al_query.specs.Tells.{TellsPlan}
 use Rattle.al_query.proofs.Dues.{IsOneText, no_plan, one_refusal}
 
 -- ---- reading and accepting
@@ -28,11 +27,6 @@ read_stopped bytes F.NoMemory h = tt
 pub accept_stopped : (bytes : Bytes) (f : PlanFile) (fault : CompileFault) → Reads bytes f → TellsAccepted f (Err fault) → TellsPlanText bytes (Err fault)
 accept_stopped bytes f (F.Refused r) reads h = unaccepted bytes refl f reads h
 accept_stopped bytes f F.NoMemory reads h = tt
-
--- the status that a fault becomes tells what the fault does
-pub stopped_plan : (bytes : Bytes) (fault : CompileFault) → TellsPlanText bytes (Err fault) → TellsPlan (Some bytes) (Err (status_of fault))
-stopped_plan bytes (F.Refused r) h = h
-stopped_plan bytes F.NoMemory h = tt
 
 -- ---- compiling
 

@@ -9,14 +9,7 @@ use Rattle.al_read.specs.declared.plan.ReadRefused.TheVariants as A
 use Rattle.al_read.specs.Reads.{Reads, IsReadRefusal}
 use Rattle.al_query.specs.declared.fault.CompileFault.{CompileFault}
 use Rattle.al_query.specs.declared.fault.CompileFault.TheVariants as F
-use Rattle.al_query.specs.declared.status.Status.{Status}
-use Rattle.al_query.specs.declared.status.Status.TheVariants as St
 use Rattle.al_query.specs.Served.{IsPlan, IsPlanRefused}
-
--- how a command ends whose plan file does not compile
-abbrev pub status_of : CompileFault → Status
-status_of (F.Refused r) = St.PlanRefused r
-status_of F.NoMemory = St.NoMemory
 
 -- the fault of a text that was not read
 abbrev pub unread_fault : ReadRefused → CompileFault

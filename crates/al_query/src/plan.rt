@@ -1,11 +1,10 @@
 //! Plan files that are read and accepted.
 
-ghost use Rattle.std.specs.Prelude.{◌≡◌, false, Err as Refuses, IfOk, IfErr};
+ghost use Rattle.std.specs.Prelude.{◌≡◌, IfOk, IfErr};
 ghost use Rattle.al_value.specs.Outside.{Counted, Told};
 ghost use Rattle.al_plan.specs.Refines.{Fit};
 ghost use Rattle.al_read.specs.Reads as reads;
 ghost use Rattle.al_plan.specs.Accept.{IsAccepted};
-ghost use Rattle.al_query.specs.Compiles.{status_of};
 ghost use Rattle.al_query.specs.Tells.{IsPlanStop, TellsPlan, is_source_fault};
 
 use crate::accept::accept_text;
@@ -33,7 +32,8 @@ pub fn read_accepted<S: Source>(
     match read_file(alloc, source, name, MAX_PLAN) {
         Ok(FileRead::Bytes(bytes)) => match accept_text(alloc, bytes.as_slice()) {
             Ok(file) => Ok(file),
-            Err(fault) => Err(status_of(fault)),
+            Err(CompileFault::Refused(refused)) => Err(Status::PlanRefused(refused)),
+            Err(CompileFault::NoMemory) => Err(Status::NoMemory),
         },
         Ok(FileRead::TooLarge) => Err(plan_refused(RefusedKind::TooLarge, MAX_PLAN as u32)),
         Ok(FileRead::Absent) => Err(plan_refused(RefusedKind::Absent, 0)),
@@ -46,16 +46,4 @@ fn plan_refused(kind: RefusedKind, place: u32) -> Status
     ensures { result ≡ Status.PlanRefused (reads.refusal kind place) }
 {
     Status::PlanRefused(Refused { kind, place })
-}
-
-/// How a command ends whose plan file does not compile.
-fn status_of(fault: CompileFault) -> Status
-    ensures is { result ≡ status_of fault }
-    ensures stops { IsPlanStop result }
-    ensures quiet { is_source_fault (Refuses result) ≡ false }
-{
-    match fault {
-        CompileFault::Refused(refused) => Status::PlanRefused(refused),
-        CompileFault::NoMemory => Status::NoMemory,
-    }
 }

@@ -1,5 +1,5 @@
 use crate::rows::{append, one, text, two};
-use hy_frame::{Append, Bank, LoadFault, NotFrame, RowBuf, is_field, parse_frame};
+use hy_frame::{Append, Bank, FrameCopy, LoadFault, NotFrame, RowBuf, is_field, parse_frame};
 use std::test::Fail;
 
 #[test]
@@ -140,5 +140,22 @@ fn knows_fields(rt: HostRuntime) -> Result<(), Fail> {
     for other in others {
         assert!(rt; !is_field(other));
     }
+    Ok(())
+}
+
+#[test]
+fn keeps_copies(rt: HostRuntime) -> Result<(), Fail> {
+    let alloc = rt.alloc();
+    let row = one(alloc, b"\x04Ann")?;
+    let mut bank = Bank::new(256, 2);
+    let mut frame = bank.take(alloc, 1, row.size())?;
+    assert_eq!(rt; append(&mut frame, &row), Append::Appended);
+    let copy = FrameCopy::of(alloc, &frame)?;
+    frame.clear();
+    assert_eq!(rt; copy.frame().rows(), 1);
+    let mut other = bank.take(alloc, 1, 249)?;
+    other.copy_from(copy.frame())?;
+    assert_eq!(rt; other.bytes(), copy.frame().bytes());
+    assert_eq!(rt; other.field(0, 0), b"\x04Ann".as_slice());
     Ok(())
 }

@@ -1,5 +1,10 @@
 pub mod Cases
 pub mod DeskMade
 pub mod DeskRuns
+pub mod Keeps
+pub mod MailCases
+pub mod Places
+pub mod PortLaws
+pub mod Posts
 pub mod RowLaws
 pub mod WordLaws

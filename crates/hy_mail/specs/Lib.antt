@@ -4,5 +4,13 @@ pub mod DeskRuns
 pub mod Desks
 pub mod Events
 pub mod Laws
+pub mod MailCases
+pub mod MailLaws
+pub mod Mails
+pub mod Passes
+pub mod PortLaws
 pub mod Rows
+pub mod Seated
+pub mod SeatedLaws
+pub mod Tokens
 pub mod Words

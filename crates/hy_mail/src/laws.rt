@@ -2,6 +2,9 @@
 ghost use Rattle.hy_mail.specs.Cases.{CloseShowsNoRow, EmptyIsCounted, FailIsNoEnd, FailMayCome, FrameShowsItsValues, FrameShowsNoOtherOrder, FrameShowsNoOthers, FramesHaveTheArity, FramesMayCome, FrontIsTaken, FullIsCounted, FullTakesNoMore, LastIsNotTaken, NoFrameBehindFail, NotRaisedAtFirst, NothingBehindClose, OneReceives, OpenComesFirst, OpenComesOnce, OpenIsABeginning, OpenIsNoEnd, OpenOnce, OthersDontSend, PutGoesIn, PutIsItsSenders, PutIsNotDropped, RaiseIsNotUnseen, RaiseIsSeen, RefusalsCount, RoomIsNotFull, SendersHaveNumbers, SomeIsNotEmpty, WordsAreApart};
 ghost use Rattle.hy_mail.specs.DeskRuns.{ClosedIsTaken, MailboxesStay, OthersWait, RunsDeliver, RunsLead};
 ghost use Rattle.hy_mail.specs.Laws.{EndedIsWriterWord, MayIsNext, WordsAreSoFar, WordsTellState};
+ghost use Rattle.hy_mail.specs.MailCases.{HeldIsOfSenders, HeldIsOfTheArity, LookIsTrueWhereFound, NoNumberIsLost, NoNumberTwice, NoSecondTaker, NoneIsDropped, NoneIsMadeUp, NoneOvertakes, PutChangesItsPass, PutIsTakenThenHeld, RaiseRaises, RefusalsAdd, RefusalsEnd, SecondRaiseIsNoStep, SeenIsSeenAgain, SendersPutWords, SpentHoldsNothing, WordsAreByMailbox};
+ghost use Rattle.hy_mail.specs.MailLaws.{DealKeeps, HeldIsPosted, MailBegins, NumbersAreApart, OneTakes, PopKeeps, PushKeeps, PutIsTakenOrHeld, TakeInKeeps};
+ghost use Rattle.hy_mail.specs.PortLaws.{PassesKnowPuts, PassesKnowTakes};
 ghost use Rattle.hy_mail.specs.Rows.{FieldsAreValues, FieldsTellValues, ParcelsAreSeen, ParcelsAreSeenOnce, RowsAreValues, RowsTellValues};
 
 /// How far a sender's word has come, and what may come next. It does nothing: its clauses speak of every word.
@@ -20,6 +23,26 @@ pub fn desk_laws()
     ensures deliver { RunsDeliver }
     ensures lead { RunsLead }
     ensures closed { ClosedIsTaken }
+{}
+
+/// The rule of a mailbox of threads: it holds at the start, each kind of step keeps it, and what it says at every
+/// moment. It does nothing.
+pub fn mail_laws()
+    ensures begins { MailBegins }
+    ensures push { PushKeeps }
+    ensures pop { PopKeeps }
+    ensures deal { DealKeeps }
+    ensures take_in { TakeInKeeps }
+    ensures one_takes { OneTakes }
+    ensures apart { NumbersAreApart }
+    ensures put { PutIsTakenOrHeld }
+    ensures held { HeldIsPosted }
+{}
+
+/// What the passes of a port know after each step: what was put and what was taken, in order. It does nothing.
+pub fn port_laws()
+    ensures puts { PassesKnowPuts }
+    ensures takes { PassesKnowTakes }
 {}
 
 /// The fields of frames are the fields of values, and parcels are seen with their rows of values. It does nothing.
@@ -75,4 +98,31 @@ pub fn desk_cases()
     ensures raise_is_seen { RaiseIsSeen }
     ensures raise_is_not_unseen { RaiseIsNotUnseen }
     ensures refusals_count { RefusalsCount }
+{}
+
+/// What meets the rule of a mailbox of threads, and what does not. It does nothing: its clauses are worked cases.
+pub fn mail_cases()
+    ensures put_is_taken_then_held { PutIsTakenThenHeld }
+    ensures none_is_dropped { NoneIsDropped }
+    ensures none_is_made_up { NoneIsMadeUp }
+    ensures none_overtakes { NoneOvertakes }
+    ensures senders_put_words { SendersPutWords }
+    ensures held_is_of_senders { HeldIsOfSenders }
+    ensures held_is_of_the_arity { HeldIsOfTheArity }
+    ensures no_second_taker { NoSecondTaker }
+    ensures no_number_twice { NoNumberTwice }
+    ensures no_number_is_lost { NoNumberIsLost }
+    ensures spent_holds_nothing { SpentHoldsNothing }
+{}
+
+/// What a port over passes tells. It does nothing: its clauses are worked cases.
+pub fn port_cases()
+    ensures words_are_by_mailbox { WordsAreByMailbox }
+    ensures put_changes_its_pass { PutChangesItsPass }
+    ensures refusals_add { RefusalsAdd }
+    ensures refusals_end { RefusalsEnd }
+    ensures raise_raises { RaiseRaises }
+    ensures second_raise_is_no_step { SecondRaiseIsNoStep }
+    ensures look_is_true_where_found { LookIsTrueWhereFound }
+    ensures seen_is_seen_again { SeenIsSeenAgain }
 {}

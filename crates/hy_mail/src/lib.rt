@@ -5,12 +5,20 @@
 mod desk;
 mod desk_box;
 mod laws;
+mod mailbox;
 mod parcel;
 mod plan;
 mod port;
+mod rule;
+mod seat_port;
 
 pub use desk::{Desk, DeskPort};
-pub use laws::{desk_cases, desk_laws, row_cases, row_laws, word_cases, word_laws};
+pub use laws::{
+    desk_cases, desk_laws, mail_cases, mail_laws, port_cases, port_laws, row_cases, row_laws,
+    word_cases, word_laws,
+};
+pub use mailbox::{Mailbox, SendPass, TakePass};
 pub use parcel::{Parcel, PutAnswer};
 pub use plan::BoxPlan;
 pub use port::Port;
+pub use seat_port::{SeatParts, SeatPort};

@@ -5,3 +5,9 @@
 mod desks;
 #[cfg(test)]
 mod parcels;
+#[cfg(test)]
+mod ports;
+#[cfg(test)]
+mod shared;
+#[cfg(test)]
+mod threads;

@@ -11,11 +11,8 @@ fn cmp_rows(a: &[Value], b: &[Value]) -> Ordering
     ensures { result ≡ slice_cmp value_cmp a.now b.now }
 {
     match a {
-        [] => if b.is_empty() {
-            Ordering::Equal
-        } else {
-            Ordering::Less
-        },
+        [] if b.is_empty() => Ordering::Equal,
+        [] => Ordering::Less,
         [x, xs @ ..] => match b {
             [] => Ordering::Greater,
             [y, ys @ ..] => match cmp_values(x, y) {

@@ -73,12 +73,7 @@ fn are_wide(rows: &[Row], width: usize) -> bool
 }
 
 /// The row of the plan over the rows, where they have so many values.
-fn row_over(
-    alloc: Global,
-    plan: &NestedPlan,
-    width: usize,
-    rows: &[Row],
-) -> Result<Row, Fail>
+fn row_over(alloc: Global, plan: &NestedPlan, width: usize, rows: &[Row]) -> Result<Row, Fail>
     requires { SoundNested plan.now width }
 {
     if !are_wide(rows, width) {

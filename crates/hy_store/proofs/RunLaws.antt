@@ -11,9 +11,10 @@ use Rattle.hy_store.specs.Runs.{Held, RunsOf, IsLive, HaveShape, IsFrameAt, Othe
 use Rattle.hy_store.specs.Laws.{CreatedIsLive, GrownIsLive, RemovedIsNot, CreatedHasShape, GrownHasShape, OthersHaveShape, LastIsFound}
 
 pub created_is_live : CreatedIsLive
-created_is_live run old new made =
-    (subst (λ l. Contains l run) (sym made.live) (Contains-append_right old.live (run ∷ []) run (0, omega arith, refl)),
-     λ r h. subst (λ l. Contains l r) (sym made.live) (Contains-append_left old.live (run ∷ []) r h))
+created_is_live run old new made = (
+  subst (λ l. Contains l run) (sym made.live) (Contains-append_right old.live (run ∷ []) run (0, omega arith, refl)),
+  λ r h. subst (λ l. Contains l r) (sym made.live) (Contains-append_left old.live (run ∷ []) r h),
+)
 
 pub grown_is_live : GrownIsLive
 grown_is_live run r frame old new grew h = subst (λ l. Contains l r) (sym grew.live) h
@@ -34,40 +35,41 @@ differ x run other e = grind (arith, nat_tests)
 not_there : (live : List ℕ) (run : ℕ) → ¬ Contains (without run live) run
 not_there [] run h = absurd (omega (arith, h.1))
 not_there (x ∷ live) run h = elim (cases_Bool (nat_eq x run)) [
-    | inl same ↦ not_there live run (rw same at h)
-    | inr other ↦ elim (is_here x run (without run live) (rw other at h)) [
-        | inl e ↦ absurd (differ x run other e)
-        | inr rest ↦ not_there live run rest
-      ]
+  | inl same ↦ not_there live run (rw same at h)
+  | inr other ↦ elim (is_here x run (without run live) (rw other at h)) [
+    | inl e ↦ absurd (differ x run other e)
+    | inr rest ↦ not_there live run rest
   ]
+]
 
 still_there : (live : List ℕ) (run r : ℕ) → r ≢ run → Contains live r → Contains (without run live) r
 still_there [] run r ne h = absurd (omega (arith, h.1))
 still_there (x ∷ live) run r ne h = elim (is_here x r live h) [
-    | inl e ↦
-        let other : nat_eq x run ≡ false = grind (arith, nat_tests) in
-        rw other (subst (λ y. Contains (y ∷ without run live) r) (sym e) (here r (without run live)))
-    | inr rest ↦ elim (cases_Bool (nat_eq x run)) [
-        | inl same ↦ rw same (still_there live run r ne rest)
-        | inr other ↦ rw other (later x r (without run live) (still_there live run r ne rest))
-      ]
+  | inl e ↦
+      let other : nat_eq x run ≡ false = grind (arith, nat_tests) in
+      rw other (subst (λ y. Contains (y ∷ without run live) r) (sym e) (here r (without run live)))
+  | inr rest ↦ elim (cases_Bool (nat_eq x run)) [
+    | inl same ↦ rw same (still_there live run r ne rest)
+    | inr other ↦ rw other (later x r (without run live) (still_there live run r ne rest))
   ]
+]
 
 was_there : (live : List ℕ) (run r : ℕ) → Contains (without run live) r → Contains live r
 was_there [] run r h = absurd (omega (arith, h.1))
 was_there (x ∷ live) run r h = elim (cases_Bool (nat_eq x run)) [
-    | inl same ↦ later x r live (was_there live run r (rw same at h))
-    | inr other ↦ elim (is_here x r (without run live) (rw other at h)) [
-        | inl e ↦ subst (λ y. Contains (y ∷ live) r) (sym e) (here r live)
-        | inr rest ↦ later x r live (was_there live run r rest)
-      ]
+  | inl same ↦ later x r live (was_there live run r (rw same at h))
+  | inr other ↦ elim (is_here x r (without run live) (rw other at h)) [
+    | inl e ↦ subst (λ y. Contains (y ∷ live) r) (sym e) (here r live)
+    | inr rest ↦ later x r live (was_there live run r rest)
   ]
+]
 
 pub removed_is_not : RemovedIsNot
-removed_is_not run old new gone =
-    (λ h. not_there old.live run (subst (λ l. Contains l run) gone.live h),
-     λ r ne h. subst (λ l. Contains l r) (sym gone.live) (still_there old.live run r ne h),
-     λ r h. was_there old.live run r (subst (λ l. Contains l r) gone.live h))
+removed_is_not run old new gone = (
+  λ h. not_there old.live run (subst (λ l. Contains l run) gone.live h),
+  λ r ne h. subst (λ l. Contains l r) (sym gone.live) (still_there old.live run r ne h),
+  λ r h. was_there old.live run r (subst (λ l. Contains l r) gone.live h),
+)
 
 -- what holds of what is told
 shapes : ℕ → ℕ → FrameOf → Type 0
