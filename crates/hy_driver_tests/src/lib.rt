@@ -1,9 +1,0 @@
-//! Tests of drivers.
-#![tactic(auto)]
-
-#[cfg(test)]
-mod calls;
-#[cfg(test)]
-mod drivers;
-#[cfg(test)]
-mod no_store;
