@@ -1,1 +1,3 @@
 pub mod Optimised
+pub mod Determined
+pub mod TraceCases

@@ -4,6 +4,7 @@ ghost use Rattle.std.specs.Prelude.{◌≡◌, IfOk, true, false};
 ghost use Rattle.al_plan.specs.Refines.{Fit, Refines};
 ghost use Rattle.al_rule.specs.Driven.{Drove};
 ghost use Rattle.al_rule.specs.Rules.{Stuck};
+ghost use Rattle.al_opt.specs.Determined.{IsOnlyTrace};
 ghost use Rattle.al_opt.specs.Optimised.{LegalTrace, Reaches};
 ghost use Rattle.al_rules_select.specs.Sets.{split_rules};
 
@@ -62,10 +63,12 @@ fn split(alloc: Global, p: Boxed<Plan>, t: &mut Trace) -> Result<Boxed<Plan>, No
 }
 
 /// Rewrites a plan by the sets of rules, in their order: split once, then select, join, select
-/// again, order, group and prune, each until none of its rules matches. The trace has each step.
+/// again, order, group and prune, each until none of its rules matches. The trace has each step,
+/// and the plan that is given determines it and what it leads to.
 pub fn optimise(alloc: Global, p: &Plan) -> Result<(Plan, Trace), NoMemory>
     requires { Fit p.now }
     ensures legal { IfOk result (λ both. LegalTrace p.now both.1.steps both.0) }
+    ensures only { IfOk result (λ both. IsOnlyTrace p.now both.1.steps both.0) }
     ensures refines { IfOk result (λ both. Refines both.0 p.now) }
 {
     let mut trace = Trace::new(alloc);

@@ -53,7 +53,7 @@ pub record AreSingle : Type 0 where
 one_content : (file : Option Bytes) (a b : Bytes) → file ≡ Some a → file ≡ Some b → a ≡ b
 one_content file a b h k = cc
 
-one_plan : IsOneText → (file : Option Bytes) (f g : PlanFile) → IsPlan file f → IsPlan file g → f ≡ g
+pub one_plan : IsOneText → (file : Option Bytes) (f g : PlanFile) → IsPlan file f → IsPlan file g → f ≡ g
 one_plan single file f g (a, there, is, good) (b, here, also, fine) = (single.reading b).file f g (subst (λ (bytes : Bytes). Reads bytes f) (one_content file a b there here) is) also
 
 none_some : {X : Type 0} (o : Option X) (x : X) → o ≡ None → o ≡ Some x → ⊥

@@ -33,6 +33,7 @@ use Rattle.hy_job.specs.declared.job.Job.{Job}
 use Rattle.hy_job.specs.declared.job.Stage.{Stage}
 use Rattle.hy_job.specs.Sound.{SoundJob}
 use Rattle.hy_job.specs.Stages.{StageOf}
+use Rattle.al_choose.specs.Chosen.{chosen}
 use Rattle.al_jobgen.specs.JobOf.{job_of}
 use Rattle.al_query.specs.declared.status.DataRefused.{DataRefused}
 use Rattle.al_query.specs.declared.status.Status.{Status}
@@ -95,11 +96,12 @@ pub record IsServed (files : Files) (name text : Bytes) : Type 0 where
 abbrev pub IsPrinted : Files → Bytes → Bytes → Type 0
 IsPrinted files name text = (f : PlanFile) × IsPlan (files name) f × (text ≡ plan_text f)
 
--- a plan is compiled for this many partitions: legal steps lead to a plan that may stand for it, a placed physical plan stands
--- for that one, and the job is the physical plan's
+-- a plan is compiled for this many partitions: legal steps lead to a plan that may stand for it, the physical plan that is chosen is
+-- placed and stands for that one, and the job is the physical plan's
 pub record IsCompiled (root : Plan) (partitions : ℕ) (steps : List TraceStep) (optimised : Plan) (phys : Phys) (job : Job) : Type 0 where
   pub legal : LegalTrace root steps optimised
   pub refines : Refines optimised root
+  pub is_chosen : phys ≡ chosen partitions optimised
   pub placed : Placed phys partitions
   pub stands : Stands optimised phys partitions
   pub job_is : job ≡ job_of phys partitions

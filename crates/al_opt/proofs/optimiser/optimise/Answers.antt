@@ -5,6 +5,7 @@ use Rattle.al_opt.specs.Optimised.{LegalTrace}
 use Rattle.al_rule.specs.declared.names.SetName.TheVariants as S
 use Rattle.al_opt.specs.Optimised.{is_once, rules_of}
 use Rattle.al_opt.proofs.OptimisedLaws.{Optimised, none_left, one_more, optimised}
+use Rattle.al_opt.proofs.OneTrace.{traces_are_one}
 use Rattle.al_opt.proofs.optimiser.optimise.Goals as goal
 
 pub returns : goal.returns
@@ -23,7 +24,9 @@ returns c =
     (one_more rules_of is_once S.Prune _ c.in_ok-q-7.q q q c.exhaust-5.new.t t t c.in_ok-q-8.ensures
     (none_left rules_of is_once q t fit)))))))) in
     let same = sym c.into_inner-q.ensures in
+    let legal = subst (λ (z : Plan). LegalTrace c.args.p.now t.steps z) same whole.legal in
     record {
-      legal = subst (λ (z : Plan). LegalTrace c.args.p.now t.steps z) same whole.legal;
+      legal = legal;
+      only = traces_are_one c.args.p.now _ t.steps legal;
       refines = subst (λ (z : Plan). Refines z c.args.p.now) same whole.refines;
     }

@@ -1,0 +1,4 @@
+pub mod Rising
+pub mod OneStages
+pub mod PieceOrder
+pub mod OrderCases

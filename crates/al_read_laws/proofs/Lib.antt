@@ -1,0 +1,3 @@
+pub mod AllTokens
+pub mod AllTexts
+pub mod SmallTexts

@@ -1,0 +1,2 @@
+pub mod EveryText
+pub mod TextCases
