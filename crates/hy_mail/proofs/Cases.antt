@@ -71,6 +71,15 @@ frame_shows_no_other_order h = less_differs 0 1 (ap (λ rows. at rows 0 0) h.fie
 pub close_shows_no_row : C.CloseShowsNoRow
 close_shows_no_row row h = less_differs 0 1 (ap (λ (rows : List (List (List ℕ))). length rows) h.fields) (omega arith)
 
+pub frame_is_rows_between : C.FrameIsRowsBetween
+frame_is_rows_between = (tt, (frame_shows_its_values, (tt, tt)))
+
+pub kinds_are_the_same : C.KindsAreTheSame
+kinds_are_the_same h = h.1.0
+
+pub no_signal_is_missing : C.NoSignalIsMissing
+no_signal_is_missing h = h.1
+
 -- ---- a desk
 
 no_yes : ◌≡◌ {A = Bool} false true → ⊥

@@ -5,7 +5,7 @@ use Rattle.std.specs.List.{Contains}
 use Rattle.std.proofs.lemmas.List.{length-map, get_or-map}
 use Rattle.std.proofs.lemmas.Bool.{cases_Bool, cases_lt}
 use Rattle.std.proofs.lemmas.List.{get_or_append_left}
-use Rattle.std.proofs.lemmas.List.Elements.{All-head, All-nil, All-push, All-tail, All-weaker}
+use Rattle.std.proofs.lemmas.List.Elements.{All-head, All-nil, All-push, All-tail}
 use Rattle.std.proofs.Math.Seq.{get_or-append_seam}
 use borrow.Author.Tests.{eqb-true}
 use mathlib.Core.Option.{some, some-ne-none, some-injective}
@@ -21,7 +21,7 @@ use Rattle.hy_mail.specs.declared.rule.MailView.{MailView}
 use Rattle.hy_mail.specs.DeskRuns.{of_sender}
 use Rattle.hy_mail.specs.Desks.{IsPostedIn}
 use Rattle.hy_mail.specs.MailLaws.{HeldIsPosted, NumbersAreApart, OneTakes, PutIsTakenOrHeld}
-use Rattle.hy_mail.specs.Mails.{Fits, FitsSender, FitsTaker, HasPass, IsSender, Keeps, KnowsAll, KnowsPut, KnowsWords, Ledger, Mails, Popped, dealt, joined, maker, popping, pushing, sender, spent}
+use Rattle.hy_mail.specs.Mails.{Fits, FitsSender, FitsTaker, HasPass, IsSender, KnowsAll, KnowsPut, KnowsWords, Ledger, Mails, Popped, dealt, joined, maker, popping, pushing, sender, spent}
 use Rattle.hy_mail.specs.Passes.{SendState, Settles}
 use Rattle.hy_mail.specs.Words.{HasArity, IsWordSoFar, may, next}
 use Rattle.hy_mail.proofs.Posts.{differs, none_some, of_append, same_some}

@@ -7,4 +7,5 @@ pub mod Places
 pub mod PortLaws
 pub mod Posts
 pub mod RowLaws
+pub mod Signals
 pub mod WordLaws

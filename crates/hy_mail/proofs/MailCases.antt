@@ -1,26 +1,24 @@
 -- Which worked cases of mailboxes of threads hold.
-use Rattle.std.proofs.Common.{◌≡◌, ◌<◌, ◌≤◌, ◌==◌, ℕ, zero, suc, Bool, true, false, List, [], ◌∷◌, length, refl, sym, ap, ◌∙◌, subst, Option, Some, None, inl, inr, arith, eq-eqb}
-use Rattle.std.specs.Prelude.{All, if◌then◌else◌}
+use Rattle.std.proofs.Common.{◌≡◌, ◌<◌, ◌≤◌, ◌==◌, ℕ, zero, suc, Bool, true, false, List, [], ◌∷◌, refl, sym, ap, ◌∙◌, subst, Option, Some, None, inl, inr, arith, eq-eqb}
+use Rattle.std.specs.Prelude.{if◌then◌else◌}
 use Rattle.std.proofs.lemmas.Bool.{cases_Bool}
 use Rattle.std.proofs.lemmas.Bool.Decides.{nat_tests}
 use Rattle.std.proofs.lemmas.List.Elements.{All-cons, All-nil}
 use borrow.Author.Tests.{eqb-true}
 use mathlib.Core.Option.{some, some-injective, some-ne-none}
 use lib.ListN.{get_elem?}
-use Rattle.hy_abort.specs.Seats.{HasSeen, SeatState}
+use Rattle.hy_abort.specs.Seats.{SeatState}
 use Rattle.hy_mail.specs.declared.parcel.Parcel.{Parcel}
-use Rattle.hy_mail.specs.declared.parcel.Parcel.TheVariants.{Open, Frame, Fail, Close}
+use Rattle.hy_mail.specs.declared.parcel.Parcel.TheVariants.{Open, Frame, Close}
 use Rattle.hy_mail.specs.declared.parcel.Posted.{Posted}
 use Rattle.hy_mail.specs.declared.rule.MailView.{MailView}
 use Rattle.hy_mail.specs.DeskRuns.{of_sender}
 use Rattle.hy_mail.specs.Desks.{IsPostedIn}
 use Rattle.hy_mail.specs.MailCases as C
 use Rattle.hy_mail.specs.MailCases.{posted, sender_of, taker_of, two_senders}
-use Rattle.hy_mail.specs.Mails.{Fits, HasPass, Keeps, Ledger, Mails, spent}
-use Rattle.hy_mail.specs.Seated.{PortState}
+use Rattle.hy_mail.specs.Mails.{Fits, HasPass, Ledger, spent}
 use Rattle.hy_mail.specs.Words.{IsWordSoFar}
 use Rattle.hy_mail.proofs.Keeps.{held_is, numbers_apart, one_takes, put_is}
-use Rattle.hy_mail.proofs.Posts.{none_some}
 
 less_differs : (a b : ℕ) → a ≡ b → a < b → ⊥
 less_differs a b same less = omega arith

@@ -1,6 +1,6 @@
 -- The pass of a mailbox by its place, and what a call by it leaves.
-use Rattle.std.proofs.Common.{◌≡◌, ◌<◌, ◌+◌, ◌==◌, ℕ, zero, suc, Bool, true, false, List, [], ◌∷◌, ◌++◌, length, get_or, set, sym, refl, ap, ◌∙◌, subst, inl, inr, Option, Some, None, arith, eq-eqb}
-use Rattle.std.specs.Prelude.{All, map, position}
+use Rattle.std.proofs.Common.{◌≡◌, ◌<◌, ◌+◌, ◌==◌, ℕ, zero, suc, true, false, List, [], ◌∷◌, ◌++◌, length, get_or, set, sym, refl, ap, ◌∙◌, subst, inl, inr, Option, Some, None, arith, eq-eqb}
+use Rattle.std.specs.Prelude.{All}
 use Rattle.std.specs.List.{position_from}
 use Rattle.std.proofs.lemmas.Bool.{cases_Bool}
 use Rattle.std.proofs.lemmas.Iterator.Adapters.{position_from-zero}
@@ -8,7 +8,6 @@ use Rattle.std.proofs.lemmas.List.{get_or-map}
 use Rattle.std.proofs.lemmas.List.Elements.{All-get_or, All-push, All-set}
 use Rattle.std.proofs.lemmas.List.Quantifiers.{position-Some}
 use borrow.Author.Tests.{eqb-true}
-use Rattle.hy_frame.specs.declared.writer.WriterState.{WriterState}
 use Rattle.hy_frame.specs.declared.writer.WriterState.TheVariants.{Initial}
 use Rattle.hy_mail.specs.declared.parcel.Parcel.{Parcel}
 use Rattle.hy_mail.specs.declared.parcel.PutAnswer.{PutAnswer}
@@ -16,7 +15,7 @@ use Rattle.hy_mail.specs.declared.parcel.PutAnswer.TheVariants as A
 use Rattle.hy_mail.specs.DeskLaws.{false_true}
 use Rattle.hy_mail.specs.Passes.{IsSendOf, IsTakeOf, MailboxState, SendState, TakeState, TellsMailPut, TellsMailTake, putting, refused_put, refused_take, taking}
 use Rattle.hy_mail.specs.Seated.{IsBoxAt, IsSentAt, IsTakenAt, TellsPutAt, TellsTakeAt, arity_in, change_at, first_at, has, place_in, senders_in, word_at}
-use Rattle.hy_mail.specs.Words.{HasArity, may}
+use Rattle.hy_mail.specs.Words.{HasArity}
 
 -- the place of the first pass of a mailbox
 pub record IsPlace {A : Type 0} (xs : List (ℕ × A)) (m k : ℕ) : Type 0 where

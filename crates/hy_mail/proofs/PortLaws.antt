@@ -1,14 +1,13 @@
 -- What the passes of a port know after each step.
-use Rattle.std.proofs.Common.{◌≡◌, ◌==◌, ℕ, List, [], ◌∷◌, ◌++◌, refl, ap, ◌∙◌, subst, inl, inr}
-use Rattle.std.specs.Prelude.{if◌then◌else◌}
+use Rattle.std.proofs.Common.{◌≡◌, ◌==◌, List, [], ◌∷◌, ◌++◌, refl, ap, ◌∙◌, subst, inl, inr}
 use Rattle.std.proofs.lemmas.Bool.{cases_Bool}
 use borrow.Author.Tests.{eqb-true}
 use Rattle.hy_mail.specs.declared.parcel.Parcel.{Parcel}
 use Rattle.hy_mail.specs.declared.parcel.Posted.{Posted}
-use Rattle.hy_mail.specs.Events.{Event, Put, Took, Raise, Look, Full, Empty}
+use Rattle.hy_mail.specs.Events.{Put, Took, Raise, Look, Full, Empty}
 use Rattle.hy_mail.specs.Passes.{SendState, TakeState, putting, refused_put, refused_take, taking}
 use Rattle.hy_mail.specs.PortLaws.{PassesKnowPuts, PassesKnowTakes, put_into, taken_from}
-use Rattle.hy_mail.specs.Seated.{PortState, PortStep, change_at, first_at}
+use Rattle.hy_mail.specs.Seated.{PortState, change_at, first_at}
 use Rattle.hy_mail.specs.SeatedLaws.{shown_here, shown_other, shown_same}
 
 abbrev put_by : SendState → List Parcel

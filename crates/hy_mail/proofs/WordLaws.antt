@@ -68,7 +68,7 @@ opens (Fail ∷ Close ∷ p ∷ ps) a = absurd a
 opens (Close ∷ []) a = (refl, refl)
 opens (Close ∷ p ∷ ps) a = absurd a
 
-whole : (word : List Parcel) → Leads Initial word Closed → IsWriterWord word
+pub whole : (word : List Parcel) → Leads Initial word Closed → IsWriterWord word
 whole [] a = absurd cc
 whole (Open ∷ ps) a = opened ps a.1
 whole (Frame f ∷ ps) a = absurd cc

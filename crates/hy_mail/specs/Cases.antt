@@ -6,6 +6,7 @@ use Rattle.hy_frame.specs.Frame.{FrameOf}
 use Rattle.hy_frame.specs.Row.{Fields}
 use Rattle.hy_frame.specs.declared.writer.WriterState.{WriterState}
 use Rattle.hy_frame.specs.declared.writer.WriterState.TheVariants as W
+use Rattle.hy_rest.specs.Words as S
 use Rattle.hy_mail.specs.declared.parcel.Parcel.{Parcel}
 use Rattle.hy_mail.specs.declared.parcel.Parcel.TheVariants.{Open, Frame, Fail, Close}
 use Rattle.hy_mail.specs.declared.parcel.Posted.{Posted}
@@ -13,6 +14,7 @@ use Rattle.hy_mail.specs.declared.plan.BoxPlan.{BoxPlan}
 use Rattle.hy_mail.specs.Desks.{BoxState, DeskState, DeskStep, Receives, Sends, box, fresh_desk, seat_of, word_of}
 use Rattle.hy_mail.specs.Events.{Put, Took, Raise, Look, Full, Empty, refused_after}
 use Rattle.hy_mail.specs.Rows.{IsSeenWith}
+use Rattle.hy_mail.specs.Signals.{AreSignals}
 use Rattle.hy_mail.specs.Words.{IsWordSoFar, IsWriterWord}
 
 -- ---- words
@@ -70,6 +72,15 @@ FrameShowsNoOtherOrder = IsSeenWith (Frame frame) (false_one ∷ null_true ∷ [
 
 abbrev pub CloseShowsNoRow : Type 0
 CloseShowsNoRow = (row : List Value) → IsSeenWith Close (row ∷ []) → ⊥
+
+abbrev pub FrameIsRowsBetween : Type 0
+FrameIsRowsBetween = AreSignals (Open ∷ Frame frame ∷ Close ∷ []) (S.Open ∷ S.Rows (null_true ∷ false_one ∷ []) ∷ S.Close ∷ [])
+
+abbrev pub KindsAreTheSame : Type 0
+KindsAreTheSame = AreSignals (Open ∷ Close ∷ []) (S.Open ∷ S.Fail ∷ []) → ⊥
+
+abbrev pub NoSignalIsMissing : Type 0
+NoSignalIsMissing = AreSignals (Open ∷ Frame frame ∷ []) (S.Open ∷ []) → ⊥
 
 -- ---- a desk of two mailboxes
 

@@ -12,5 +12,6 @@ pub mod PortLaws
 pub mod Rows
 pub mod Seated
 pub mod SeatedLaws
+pub mod Signals
 pub mod Tokens
 pub mod Words

@@ -1,15 +1,15 @@
 -- Worked cases of the rule of a mailbox of threads, and of ports over passes.
-use Rattle.std.specs.Prelude.{◌≡◌, ◌<◌, ◌-◌, ◌^◌, ◌++◌, ℕ, Bool, true, false, List, [], ◌∷◌}
+use Rattle.std.specs.Prelude.{◌≡◌, ◌-◌, ◌^◌, ℕ, true, false, List, [], ◌∷◌}
 use Rattle.atomic_table.specs.Seated.{TableId}
 use Rattle.hy_abort.specs.Seats.{HasSeen}
 use Rattle.hy_frame.specs.Frame.{FrameOf}
 use Rattle.hy_frame.specs.declared.writer.WriterState.{WriterState}
 use Rattle.hy_frame.specs.declared.writer.WriterState.TheVariants as W
 use Rattle.hy_mail.specs.declared.parcel.Parcel.{Parcel}
-use Rattle.hy_mail.specs.declared.parcel.Parcel.TheVariants.{Open, Frame, Fail, Close}
+use Rattle.hy_mail.specs.declared.parcel.Parcel.TheVariants.{Open, Frame, Close}
 use Rattle.hy_mail.specs.declared.parcel.Posted.{Posted}
 use Rattle.hy_mail.specs.declared.rule.MailView.{MailView}
-use Rattle.hy_mail.specs.Events.{Event, Put, Took, Raise, Look, Full, Empty}
+use Rattle.hy_mail.specs.Events.{Raise, Look}
 use Rattle.hy_mail.specs.Mails.{Mails, maker, sender, spent}
 use Rattle.hy_mail.specs.Passes.{SendState, TakeState, putting}
 use Rattle.hy_mail.specs.Seated.{PortState, PortStep, change_at, has, refused_at, word_at}

@@ -1,5 +1,5 @@
 -- What a port over passes does to what its passes and its seat know.
-use Rattle.std.specs.Prelude.{◌≡◌, ◌<◌, ◌+◌, ◌-◌, ◌^◌, ◌==◌, ℕ, Bool, true, false, List, [], ◌∷◌, ◌++◌, length, map, min, slice_index_or, if◌then◌else◌, All, MatchBool, Option, Some, None, position}
+use Rattle.std.specs.Prelude.{◌≡◌, ◌<◌, ◌+◌, ◌-◌, ◌^◌, ◌==◌, ℕ, Bool, true, false, List, [], ◌∷◌, length, map, min, slice_index_or, if◌then◌else◌, All, MatchBool, Option, Some, None, position}
 use Rattle.hy_abort.specs.Seats.{HasSeen, IsSeatOf, Looks, Raises, SeatState, WordState}
 use Rattle.hy_frame.specs.declared.writer.WriterState.{WriterState}
 use Rattle.hy_frame.specs.declared.writer.WriterState.TheVariants.{Initial}

@@ -1,11 +1,12 @@
 //! What is true of words and of rows of values, and worked cases.
-ghost use Rattle.hy_mail.specs.Cases.{CloseShowsNoRow, EmptyIsCounted, FailIsNoEnd, FailMayCome, FrameShowsItsValues, FrameShowsNoOtherOrder, FrameShowsNoOthers, FramesHaveTheArity, FramesMayCome, FrontIsTaken, FullIsCounted, FullTakesNoMore, LastIsNotTaken, NoFrameBehindFail, NotRaisedAtFirst, NothingBehindClose, OneReceives, OpenComesFirst, OpenComesOnce, OpenIsABeginning, OpenIsNoEnd, OpenOnce, OthersDontSend, PutGoesIn, PutIsItsSenders, PutIsNotDropped, RaiseIsNotUnseen, RaiseIsSeen, RefusalsCount, RoomIsNotFull, SendersHaveNumbers, SomeIsNotEmpty, WordsAreApart};
+ghost use Rattle.hy_mail.specs.Cases.{CloseShowsNoRow, EmptyIsCounted, FailIsNoEnd, FailMayCome, FrameIsRowsBetween, FrameShowsItsValues, FrameShowsNoOtherOrder, FrameShowsNoOthers, FramesHaveTheArity, FramesMayCome, FrontIsTaken, FullIsCounted, FullTakesNoMore, KindsAreTheSame, LastIsNotTaken, NoFrameBehindFail, NoSignalIsMissing, NotRaisedAtFirst, NothingBehindClose, OneReceives, OpenComesFirst, OpenComesOnce, OpenIsABeginning, OpenIsNoEnd, OpenOnce, OthersDontSend, PutGoesIn, PutIsItsSenders, PutIsNotDropped, RaiseIsNotUnseen, RaiseIsSeen, RefusalsCount, RoomIsNotFull, SendersHaveNumbers, SomeIsNotEmpty, WordsAreApart};
 ghost use Rattle.hy_mail.specs.DeskRuns.{ClosedIsTaken, MailboxesStay, OthersWait, RunsDeliver, RunsLead};
 ghost use Rattle.hy_mail.specs.Laws.{EndedIsWriterWord, MayIsNext, WordsAreSoFar, WordsTellState};
 ghost use Rattle.hy_mail.specs.MailCases.{HeldIsOfSenders, HeldIsOfTheArity, LookIsTrueWhereFound, NoNumberIsLost, NoNumberTwice, NoSecondTaker, NoneIsDropped, NoneIsMadeUp, NoneOvertakes, PutChangesItsPass, PutIsTakenThenHeld, RaiseRaises, RefusalsAdd, RefusalsEnd, SecondRaiseIsNoStep, SeenIsSeenAgain, SendersPutWords, SpentHoldsNothing, WordsAreByMailbox};
 ghost use Rattle.hy_mail.specs.MailLaws.{DealKeeps, HeldIsPosted, MailBegins, NumbersAreApart, OneTakes, PopKeeps, PushKeeps, PutIsTakenOrHeld, TakeInKeeps};
 ghost use Rattle.hy_mail.specs.PortLaws.{PassesKnowPuts, PassesKnowTakes};
 ghost use Rattle.hy_mail.specs.Rows.{FieldsAreValues, FieldsTellValues, ParcelsAreSeen, ParcelsAreSeenOnce, RowsAreValues, RowsTellValues};
+ghost use Rattle.hy_mail.specs.Signals.{ParcelsAreOneSignal, ParcelsAreSignals, SoFarOfSignals, WordsOfSignals};
 
 /// How far a sender's word has come, and what may come next. It does nothing: its clauses speak of every word.
 pub fn word_laws()
@@ -55,6 +56,14 @@ pub fn row_laws()
     ensures seen_once { ParcelsAreSeenOnce }
 {}
 
+/// A parcel is one signal with rows of values, and a writer's word of parcels is one of signals. It does nothing.
+pub fn signal_laws()
+    ensures parcels { ParcelsAreSignals }
+    ensures one { ParcelsAreOneSignal }
+    ensures words { WordsOfSignals }
+    ensures so_far { SoFarOfSignals }
+{}
+
 /// What is a word, and what is none. It does nothing: its clauses are worked cases.
 pub fn word_cases()
     ensures frames_may_come { FramesMayCome }
@@ -74,6 +83,9 @@ pub fn row_cases()
     ensures frame_shows_no_others { FrameShowsNoOthers }
     ensures frame_shows_no_other_order { FrameShowsNoOtherOrder }
     ensures close_shows_no_row { CloseShowsNoRow }
+    ensures frame_is_rows_between { FrameIsRowsBetween }
+    ensures kinds_are_the_same { KindsAreTheSame }
+    ensures no_signal_is_missing { NoSignalIsMissing }
 {}
 
 /// What may happen to a desk, and what may not. It does nothing: its clauses are worked cases.

@@ -15,7 +15,7 @@ mod seat_port;
 pub use desk::{Desk, DeskPort};
 pub use laws::{
     desk_cases, desk_laws, mail_cases, mail_laws, port_cases, port_laws, row_cases, row_laws,
-    word_cases, word_laws,
+    signal_laws, word_cases, word_laws,
 };
 pub use mailbox::{Mailbox, SendPass, TakePass};
 pub use parcel::{Parcel, PutAnswer};

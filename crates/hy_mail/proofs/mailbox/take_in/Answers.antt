@@ -1,4 +1,4 @@
-use Rattle.std.proofs.Common.{◌∙◌, sym, ap}
+use Rattle.std.proofs.Common.{◌∙◌, ap}
 use Rattle.hy_mail.specs.Passes.{SendState}
 use Rattle.hy_mail.proofs.Keeps.{absorbs}
 use Rattle.hy_mail.proofs.mailbox.take_in.Goals as goal
