@@ -1,0 +1,3 @@
+pub mod StuckLaws
+pub mod NumberLaws
+pub mod CaseLaws

@@ -1,0 +1,4 @@
+pub mod Stuck
+pub mod Numbers
+pub mod Ends
+pub mod Cases
