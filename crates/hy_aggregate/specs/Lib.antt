@@ -1,0 +1,4 @@
+pub mod Joined
+pub mod Work
+pub mod Aggregate
+pub mod Cases

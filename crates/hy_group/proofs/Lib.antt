@@ -1,0 +1,11 @@
+pub mod Finding
+pub mod FreshLaws
+pub mod JoinLaws
+pub mod GroupLaws
+pub mod PieceLaws
+pub mod PutLaws
+pub mod BuildLaws
+pub mod SomeLaws
+pub mod GiveLaws
+pub mod EmitLaws
+pub mod CaseProofs

@@ -1,0 +1,9 @@
+pub mod Opens
+pub mod Groups
+pub mod Fresh
+pub mod Joining
+pub mod Making
+pub mod Build
+pub mod Emit
+pub mod Shape
+pub mod Cases

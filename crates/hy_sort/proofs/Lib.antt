@@ -1,0 +1,5 @@
+pub mod FieldOrder
+pub mod Building
+pub mod Emitting
+pub mod HandingOn
+pub mod CaseProofs

@@ -1,0 +1,4 @@
+pub mod Build
+pub mod Emit
+pub mod Laws
+pub mod Cases

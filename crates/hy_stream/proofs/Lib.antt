@@ -1,0 +1,5 @@
+pub mod WorkLaws
+pub mod StreamLaws
+pub mod SourceLaws
+pub mod UnnestLaws
+pub mod Cases
