@@ -1,0 +1,10 @@
+pub mod Held
+pub mod Fronts
+pub mod Adding
+pub mod Spreading
+pub mod Writing
+pub mod Hashing
+pub mod Closing
+pub mod CaseProofs
+pub mod Placing
+pub mod Planning

@@ -1,0 +1,16 @@
+use Rattle.std.proofs.Common.{sym, subst, ◌∙◌}
+use Rattle.std.proofs.lemmas.Result.{on_err_weaker, on_ok_weaker}
+use Rattle.hy_connect.specs.Outlets.{OutletOf, Grows, Sends}
+use Rattle.hy_connect.proofs.Adding.{some_empties, some_loses}
+use Rattle.hy_connect.proofs.outlet.Outlet.send_filling.Goals as goal
+
+pub returns-clause-ok : goal.returns-clause-ok
+returns-clause-ok c = on_ok_weaker c.send.result
+    (λ sent arity is. some_empties arity c.args.self.now c.send.new.self c.in-Some.frame (sym c.take_filling.ensures.frame ∙ c.in-Some.is) is
+    (subst (λ (o : OutletOf). Sends o c.in-Some.frame c.send.new.self) c.take_filling.ensures.after sent))
+    c.send.ensures.ok
+
+pub returns-clause-err : goal.returns-clause-err
+returns-clause-err c = on_err_weaker c.send.result
+    (λ grows arity is. some_loses arity c.args.self.now c.send.new.self is (subst (λ (o : OutletOf). Grows o c.send.new.self) c.take_filling.ensures.after grows))
+    c.send.ensures.err

@@ -1,0 +1,23 @@
+use Rattle.std.proofs.Common.{◌≡◌, ◌<◌, ◌≤◌, length, ap, ◌∙◌, arith}
+use Rattle.hy_connect.specs.Outlets.{OutletOf, closed, held_in, held_of, outlet_at}
+use Rattle.hy_connect.proofs.Fronts.{front_more, read_at}
+use Rattle.hy_connect.proofs.Held.{held_here, lent_at, lent_then}
+use Rattle.hy_connect.proofs.Writing.{flushed_none}
+use Rattle.hy_connect.proofs.outlets.close_all.Goals as goal
+
+pub close-requires-clause-held : goal.close-requires-clause-held
+close-requires-clause-held c =
+    let low : c.loop-k.k < length c.loop-k.outlets = omega arith in
+    let out = c.loop-k.invariant.1.out in
+    let le : held_of c.loop-k.outlets ≤ c.loop-k.bank.out = omega arith in
+    held_here c.loop-k.outlets c.loop-k.k c.loop-k.bank.out c.index-outlets-k.result low le
+
+pub loop-k-preserved : goal.loop-k-preserved
+loop-k-preserved c =
+    let low : c.loop-k.k < length c.loop-k.outlets = omega arith in
+    let was : OutletOf = outlet_at c.loop-k.outlets c.loop-k.k in
+    let is = c.close.ensures.outlet ∙ ap closed (read_at c.loop-k.outlets c.loop-k.k c.index-outlets-k.result low) in
+    let none : held_in c.close.new.self.filling ≡ 0 = ap (λ (o : OutletOf). held_in o.filling) is ∙ ap held_in (flushed_none was.filling was) in (
+      front_more closed c.loop-k.k c.args.outlets.now c.loop-k.outlets c.close.new.self low c.loop-k.invariant.0 is,
+      lent_then _ _ _ _ _ _ c.loop-k.invariant.1 (lent_at c.loop-k.outlets c.loop-k.k 0 c.index-outlets-k.result c.close.new.self c.loop-k.bank c.close.new.bank low none c.close.ensures.bank),
+    )

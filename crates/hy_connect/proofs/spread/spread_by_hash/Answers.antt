@@ -1,0 +1,45 @@
+use Rattle.std.proofs.Common.{◌≡◌, ◌<◌, ℕ, List, [], ◌∷◌, length, subst, ap, ◌∙◌, arith}
+use Rattle.hy_frame.specs.Row.{Fields}
+use Rattle.hy_job.specs.Columns.{part_of}
+use Rattle.hy_driver.specs.Rows.{Row, values_of}
+use Rattle.hy_connect.specs.declared.route.Route.TheVariants.{ByHash}
+use Rattle.hy_connect.specs.Many.{Rips, Spreads}
+use Rattle.hy_connect.proofs.Adding.{err_given}
+use Rattle.hy_connect.proofs.Held.{lent_then}
+use Rattle.hy_connect.proofs.Spreading.{rows_rip, rows_spread_more}
+use Rattle.hy_connect.proofs.spread.spread_by_hash.Goals as goal
+
+part_here : (p n m : ℕ) (columns : List ℕ) (v : Row) → p ≡ part_of n columns v → n ≡ m → p ≡ part_of m columns v
+part_here p n m columns v is e = is ∙ ap (λ (k : ℕ). part_of k columns v) e
+
+pub returns-in_err-spread_row-clause-err : goal.returns-in_err-spread_row-clause-err
+returns-in_err-spread_row-clause-err c =
+    let columns = c.args.columns.now in
+    let arity = c.args.frame.now.arity in
+    let rows = c.args.frame.now.rows in
+    let i = c.loop-i.i in
+    let row : Fields = c.row-row.result in
+    let end = c.rows-i-end.ensures.rows in
+    let low : i < length rows = omega arith in
+    let wide : length row ≡ arity = ap (λ (r : Fields). length r) c.row-row.ensures.row ∙ c.row-row.ensures.fields.0 in
+    let part : c.part-k.result ≡ part_of (length c.loop-i.outlets) columns (values_of row) = part_here _ _ (length c.loop-i.outlets) _ _ c.part-k.ensures.part (omega arith) in
+    let rips : Rips (ByHash columns) arity c.loop-i.outlets (values_of row ∷ []) c.spread_row.new.outlets =
+    subst (λ (n : ℕ). Rips (ByHash columns) n c.loop-i.outlets (values_of row ∷ []) c.spread_row.new.outlets) wide (c.in_err-spread_row.ensures.err columns part) in
+    err_given c.from_residual.result (rows_rip (ByHash columns) arity i rows row c.args.outlets.now c.loop-i.outlets c.spread_row.new.outlets low c.row-row.ensures.row c.loop-i.invariant.0 rips)
+
+pub loop-i-preserved : goal.loop-i-preserved
+loop-i-preserved c =
+    let columns = c.args.columns.now in
+    let arity = c.args.frame.now.arity in
+    let rows = c.args.frame.now.rows in
+    let i = c.loop-i.i in
+    let row : Fields = c.row-row.result in
+    let end = c.rows-i-end.ensures.rows in
+    let low : i < length rows = omega arith in
+    let wide : length row ≡ arity = ap (λ (r : Fields). length r) c.row-row.ensures.row ∙ c.row-row.ensures.fields.0 in
+    let part : c.part-k.result ≡ part_of (length c.loop-i.outlets) columns (values_of row) = part_here _ _ (length c.loop-i.outlets) _ _ c.part-k.ensures.part (omega arith) in
+    let spreads : Spreads (ByHash columns) arity c.loop-i.outlets (values_of row ∷ []) c.spread_row.new.outlets =
+    subst (λ (n : ℕ). Spreads (ByHash columns) n c.loop-i.outlets (values_of row ∷ []) c.spread_row.new.outlets) wide (c.in_ok-spread_row.ensures.ok columns part) in (
+      rows_spread_more (ByHash columns) arity i rows row c.args.outlets.now c.loop-i.outlets c.spread_row.new.outlets low c.row-row.ensures.row c.loop-i.invariant.0 spreads,
+      lent_then _ _ _ _ _ _ c.loop-i.invariant.1 c.spread_row.ensures.bank,
+    )

@@ -1,0 +1,38 @@
+use Rattle.std.proofs.Common.{◌<◌, ◌+◌, ◌-◌, map, length, ap, subst, refl, arith}
+use Rattle.std.proofs.lemmas.Result.{on_err_weaker, on_ok_weaker}
+use Rattle.hy_frame.specs.Row.{Fields}
+use Rattle.std.proofs.Common.{List}
+use Rattle.hy_driver.specs.Rows.{values_of}
+use Rattle.hy_connect.specs.Outlets.{OutletOf, Grows, HasRows, Sends}
+use Rattle.hy_connect.proofs.Fronts.{read_at}
+use Rattle.hy_connect.proofs.Spreading.{front_adds_all, front_rips, front_sends}
+use Rattle.hy_connect.proofs.spread.spread_whole.Goals as goal
+
+pub returns-in-Ok-clause-ok : goal.returns-in-Ok-clause-ok
+returns-in-Ok-clause-ok c =
+    let f = c.args.frame in
+    let xs = c.args.outlets.now in
+    let ys = c.send_copies.new.outlets in
+    let n = length xs - 1 in
+    let some = c.requires.some in
+    let count = c.in-Ok.ensures.ok.count in
+    let first : n < length xs = omega arith in
+    let low : n < length ys = omega arith in
+    let rows : HasRows f.arity f = record { wide = refl; some = λ e. let z = ap (λ (r : List Fields). length r) e in let l = c.rows.ensures.rows in absurd (omega arith) } in
+    on_ok_weaker c.send.result
+    (λ sends. front_adds_all f.arity (n + 1) xs _ (map values_of f.rows) (omega arith)
+    (front_sends f.arity n xs ys f c.send.new.self first c.requires.outlets rows c.in-Ok.ensures.ok (subst (λ (o : OutletOf). Sends o f c.send.new.self) (read_at ys n c.index-outlets-last.result low) sends)))
+    c.send.ensures.ok
+
+pub returns-in-Ok-clause-err : goal.returns-in-Ok-clause-err
+returns-in-Ok-clause-err c =
+    let f = c.args.frame in
+    let xs = c.args.outlets.now in
+    let ys = c.send_copies.new.outlets in
+    let n = length xs - 1 in
+    let some = c.requires.some in
+    let count = c.in-Ok.ensures.ok.count in
+    let low : n < length ys = omega arith in
+    on_err_weaker c.send.result
+    (λ grows. front_rips f.arity n xs ys (map values_of f.rows) c.send.new.self low c.requires.outlets c.in-Ok.ensures.ok (subst (λ (o : OutletOf). Grows o c.send.new.self) (read_at ys n c.index-outlets-last.result low) grows))
+    c.send.ensures.err
