@@ -1,0 +1,17 @@
+pub mod Parts
+pub mod Operators
+pub mod Merging
+pub mod Exchanges
+pub mod Doubles
+pub mod States
+pub mod Values
+pub mod Live
+pub mod Pieces
+pub mod Results
+pub mod Induction
+pub mod Records
+pub mod Read
+pub mod Faults
+pub mod Staged
+pub mod Finds
+pub mod AnswerCases

@@ -1,0 +1,4 @@
+pub mod Flow
+pub mod Answer
+pub mod Fault
+pub mod AnswerCases
