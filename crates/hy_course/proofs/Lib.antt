@@ -1,0 +1,5 @@
+pub mod ListLaws
+pub mod StepLaws
+pub mod DoneLaws
+pub mod PartLaws
+pub mod CaseLaws

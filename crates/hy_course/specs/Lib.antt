@@ -1,0 +1,4 @@
+pub mod Task
+pub mod Course
+pub mod Parts
+pub mod Cases
