@@ -1,7 +1,8 @@
 -- What each call of a writer leaves, by the parts of the writer.
-use Rattle.std.proofs.Common.{◌≡◌, ◌⊎◌, ◌<◌, ◌≤◌, ◌+◌, ℕ, false, List, [], ◌++◌, length, take, drop, set, Result, Ok, Err, OnOk, OnErr, sym, ap, subst, ◌∙◌, arith, take_at}
-use Rattle.std.proofs.lemmas.List.{set-get_or}
+use Rattle.std.proofs.Common.{◌≡◌, ◌⊎◌, ◌<◌, ◌≤◌, ◌+◌, ℕ, false, List, [], ◌++◌, length, take, drop, set, Option, None, Some, Result, Ok, Err, OnOk, OnErr, sym, ap, subst, ◌∙◌, arith, take_at}
+use Rattle.std.proofs.lemmas.List.{length_push, set-get_or}
 use Rattle.hy_frame.specs.Bank.{BankOf}
+use Rattle.hy_frame.specs.Frame.{FrameOf}
 use Rattle.hy_frame.specs.declared.writer.WriterState.{WriterState}
 use Rattle.hy_frame.specs.declared.writer.WriterState.TheVariants.{Initial, Opened, Failed, Closed}
 use Rattle.hy_mail.specs.declared.parcel.Parcel.{Parcel}
@@ -11,11 +12,21 @@ use Rattle.hy_driver.specs.Rows.{Row}
 use Rattle.hy_connect.specs.declared.route.Route.{Route}
 use Rattle.hy_connect.specs.declared.route.Route.TheVariants as R
 use Rattle.hy_connect.specs.Routes.{fills}
-use Rattle.hy_connect.specs.Outlets.{OutletOf, Lent, Pops, blank, closed, failed, held_of, outlet_at, posted}
+use Rattle.hy_connect.specs.Outlets.{OutletOf, Lent, Pops, blank, closed, failed, flushed, flushed_with, held_of, outlet_at, posted}
 use Rattle.hy_connect.specs.Many.{Each, FillNone, HaveRoom, HaveRoomToo, Rips, Spreads}
-use Rattle.hy_connect.specs.Writers.{Fails, IsAsFar, IsWriter, SendsOn, Tears, TellsWritten, WriterOf, Writes, reserve, writer_of}
+use Rattle.hy_connect.specs.Writers.{AddsParcels, Fails, IsAsFar, IsWriter, SendsOn, Tears, TellsWritten, WriterOf, Writes, reserve, writer_of}
 use Rattle.hy_connect.proofs.Held.{held_none, held_same}
-use Rattle.hy_connect.proofs.Writing.{closed_none, closes, closing_room, far_same, failed_fails, failed_none, failed_stays, opened_stays, opened_writes, pops_far, pops_sends, rips_tears, spread_writes}
+use Rattle.hy_connect.proofs.Writing.{closed_none, closed_quiet, closes, closing_room, far_same, failed_fails, failed_none, failed_quiet, failed_stays, opened_stays, opened_writes, pops_far, pops_sends, rips_tears, spread_writes}
+
+pub posted_parcels : (p : Parcel) (o : OutletOf) → length (posted p o).waits ≤ length o.waits + 1
+posted_parcels p o = let h = length_push o.waits p in omega arith
+
+pub flushed_parcels : (f : Option FrameOf) (o : OutletOf) → length (flushed_with f o).waits ≤ length o.waits + 1
+flushed_parcels None o = omega arith
+flushed_parcels (Some f) o = let h = length_push o.waits (P.Frame f) in omega arith
+
+pub closed_parcels : (o : OutletOf) → length (closed o).waits ≤ length o.waits + 2
+closed_parcels o = let h = length_push (flushed o).waits P.Close in let f = flushed_parcels o.filling o in omega arith
 
 -- a writer, by its parts: its outlets, as the code lends them and as they were
 pub record Parts (self : WriterOf) (route : Route) (arity unit n : ℕ) (lent xs : List OutletOf) (s : WriterState) : Type 0 where
@@ -112,6 +123,24 @@ module _ (self : WriterOf) (route : Route) (arity unit n : ℕ) (lent xs : List 
   close_told r ys h =
       subst (λ (l : List OutletOf). Writes self [] (writer_of route arity unit l Closed)) (sym (back closed ys h))
       (subst (λ (w : WriterOf). Writes w [] (writer_of route arity unit ys Closed)) p.view (closes route arity unit xs ys s (ready_is r) p.is (same_each closed lent xs ys p.value h)))
+
+  -- ---- parcels
+
+  pub adds_parcels : (f : OutletOf → OutletOf) (n' : ℕ) (t : WriterState) (ys : List OutletOf) → ((o : OutletOf) → length (f o).waits ≤ length o.waits + n') → Each f lent ys → AddsParcels n' self (writer_of route arity unit (written n ys xs) t)
+  adds_parcels f n' t ys most h =
+      subst (λ (l : List OutletOf). AddsParcels n' self (writer_of route arity unit l t)) (sym (back f ys h))
+      (subst (λ (w : WriterOf). AddsParcels n' w (writer_of route arity unit ys t)) p.view
+      (λ k low.
+      let each = same_each f lent xs ys p.value h in
+      subst (λ (o : OutletOf). length o.waits ≤ length (outlet_at xs k).waits + n') (sym (each.each k low)) (most (outlet_at xs k))))
+
+  pub close_ends : self.state ≡ Failed → (ys : List OutletOf) → Each closed lent ys → Each (posted P.Close) self.outlets (written n ys xs)
+  close_ends e ys h =
+      let own : Each closed xs ys = same_each closed lent xs ys p.value h in
+      let quiet : FillNone xs = (in_state Failed e).quiet (failed_quiet route) in
+      let alone : Each (posted P.Close) xs ys = record { count = own.count; each = λ k low. own.each k low ∙ closed_quiet (outlet_at xs k) (quiet k low) } in
+      subst (λ (l : List OutletOf). Each (posted P.Close) self.outlets l) (sym (back closed ys h))
+      (subst (λ (l : List OutletOf). Each (posted P.Close) l ys) (ap (λ (w : WriterOf). w.outlets) p.view) alone)
 
   -- ---- rows
 

@@ -8,3 +8,9 @@ pub mod Closing
 pub mod CaseProofs
 pub mod Placing
 pub mod Planning
+pub mod Merging
+pub mod Giving
+pub mod Hands
+pub mod Leasts
+pub mod Merger
+pub mod MergeCaseProofs

@@ -1,5 +1,5 @@
 -- What a writer's calls do to what it may still offer, and to its words.
-use Rattle.std.proofs.Common.{◌≡◌, ◌≢◌, ◌⊎◌, ◌<◌, ◌≤◌, ◌+◌, ℕ, Bool, true, false, List, [], ◌∷◌, ◌++◌, length, set, Option, None, Some, refl, sym, ap, subst, ◌∙◌, inl, inr, arith, length-set, append-nil, append_assoc, flat_map, eq-eqb, ne_eqb, if◌then◌else◌}
+use Rattle.std.proofs.Common.{◌≡◌, ◌≢◌, ◌⊎◌, ◌<◌, ◌≤◌, ◌+◌, ◌-◌, ℕ, Bool, true, false, List, [], ◌∷◌, ◌++◌, length, set, Option, None, Some, refl, sym, ap, subst, ◌∙◌, inl, inr, arith, length-set, append-nil, append_assoc, flat_map, eq-eqb, ne_eqb, if◌then◌else◌}
 use Rattle.std.specs.List.{AllByRecursion}
 use Rattle.std.proofs.lemmas.List.{set-set, set-get_or}
 use Rattle.hy_frame.specs.Frame.{FrameOf}
@@ -163,6 +163,14 @@ closed_failed route arity unit xs ys none h = writes_by route arity unit xs ys F
 pub failed_quiet : (route : Route) → fills Failed route ≡ false
 failed_quiet R.Whole = refl
 failed_quiet (R.ByHash columns) = refl
+
+-- a Close alone joins what waits where no frame is being filled
+flushed_quiet : (f : Option FrameOf) (o : OutletOf) → o.filling ≡ f → f ≡ None → posted P.Close (flushed_with f o) ≡ posted P.Close o
+flushed_quiet None o e none = ap (λ (g : Option FrameOf). record { mailbox = o.mailbox; filling = g; waits = o.waits ++ P.Close ∷ []; spare = o.spare - 1 }) (sym e)
+flushed_quiet (Some f) o e none = absurd (cc)
+
+pub closed_quiet : (o : OutletOf) → o.filling ≡ None → closed o ≡ posted P.Close o
+closed_quiet o none = flushed_quiet o.filling o refl none
 
 -- in either state
 pub closes : (route : Route) (arity unit : ℕ) (xs ys : List OutletOf) (s : WriterState) → (s ≡ Opened) ⊎ (s ≡ Failed) → IsWriter (writer_of route arity unit xs s) → Each closed xs ys → Writes (writer_of route arity unit xs s) [] (writer_of route arity unit ys Closed)

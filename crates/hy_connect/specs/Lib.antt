@@ -4,4 +4,7 @@ pub mod Many
 pub mod Writers
 pub mod Plans
 pub mod Takers
+pub mod Sources
+pub mod Merges
 pub mod Cases
+pub mod MergeCases

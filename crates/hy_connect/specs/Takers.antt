@@ -1,10 +1,20 @@
 -- What contracts see of a taker, and what its answers tell.
 use Rattle.std.specs.Prelude.{◌≡◌, ◌<◌, ◌⊎◌, ◌+◌, ℕ, Bool, true, List, length, slice_index_or, slice_set}
 use Rattle.hy_frame.specs.Bank.{BankOf, one_more}
+use Rattle.hy_job.specs.declared.job.Wire.{Wire}
+use Rattle.hy_job.specs.declared.job.Wire.TheVariants as W
 use Rattle.hy_mail.specs.declared.parcel.Parcel.TheVariants as P
 use Rattle.hy_mail.specs.Events.{Event, Empty, Took}
 use Rattle.hy_connect.specs.declared.taker.Taken.{Taken}
 use Rattle.hy_connect.specs.declared.taker.Taken.TheVariants as T
+
+-- what comes over the wire is taken as it comes: it is none that merges
+abbrev pub ComesAsPut : Wire → Type 0
+ComesAsPut W.OneToOne = Unit {0}
+ComesAsPut (W.Hash columns) = Unit {0}
+ComesAsPut W.Broadcast = Unit {0}
+ComesAsPut W.Gather = Unit {0}
+ComesAsPut (W.Merge keys) = ⊥
 
 -- a mailbox, and of each of its senders, by number, whether its Close was taken
 pub record TakerOf : Type 0 where

@@ -1,5 +1,5 @@
 -- What contracts see of a writer, and what its calls do to what it may still offer each receiver.
-use Rattle.std.specs.Prelude.{◌≡◌, ◌≢◌, ◌<◌, ◌≤◌, ℕ, true, false, List, [], ◌∷◌, ◌++◌, length, slice_index_or, None, Result, Ok, Err}
+use Rattle.std.specs.Prelude.{◌≡◌, ◌≢◌, ◌<◌, ◌≤◌, ◌+◌, ℕ, true, false, List, [], ◌∷◌, ◌++◌, length, slice_index_or, None, Result, Ok, Err}
 use Rattle.hy_frame.specs.declared.writer.WriterState.{WriterState}
 use Rattle.hy_frame.specs.declared.writer.WriterState.TheVariants.{Initial, Opened, Failed, Closed}
 use Rattle.hy_rest.specs.Rest.{Continues, InOrder}
@@ -125,6 +125,10 @@ pub record Fails (old new : WriterOf) : Type 0 where
 abbrev pub TellsWritten : WriterOf → List Row → WriterOf → {E : Type 0} → Result Unit E → Type 0
 TellsWritten old rows new (Ok x) = Writes old rows new
 TellsWritten old rows new (Err e) = Tears old rows new
+
+-- at most so many parcels more wait for each receiver
+abbrev pub AddsParcels : ℕ → WriterOf → WriterOf → Type 0
+AddsParcels n old new = (k : ℕ) → k < receivers old → length (outlet new k).waits ≤ length (outlet old k).waits + n
 
 -- ---- offers
 

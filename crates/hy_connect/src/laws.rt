@@ -1,5 +1,6 @@
 //! Which rows go where, and worked cases.
 ghost use Rattle.hy_connect.specs.Cases.{BothHaveToClose, EachHasABox, EmptyIsNotSent, FilledIsOwed, HashSplits, NothingBehindFail, TasksFollow, TwoShareABox, WaitingComesFirst, WordsAreBehind};
+ghost use Rattle.hy_connect.specs.MergeCases.{FirstBareIsWanted, HandComesFirst, LesserIsFirst, OpenOnesSend};
 ghost use Rattle.hy_connect.specs.Routes.{PlacesReceive, RoutesAreWires};
 
 /// What a writer sends to the receiver in a place is what its wire sends to that receiver's partition. It does
@@ -22,4 +23,13 @@ pub fn connect_cases()
     ensures two_share_a_box { TwoShareABox }
     ensures each_has_a_box { EachHasABox }
     ensures tasks_follow { TasksFollow }
+{}
+
+/// Of which sender a row is wanted, and which rows a merging taker may give. It does nothing: its clauses are worked
+/// cases.
+pub fn merge_cases()
+    ensures first_bare_is_wanted { FirstBareIsWanted }
+    ensures lesser_is_first { LesserIsFirst }
+    ensures open_ones_send { OpenOnesSend }
+    ensures hand_comes_first { HandComesFirst }
 {}

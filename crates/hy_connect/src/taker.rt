@@ -1,9 +1,10 @@
 //! What a task takes from.
 ghost use Rattle.std.specs.Prelude.{◌≡◌, ◌<◌, ◌⊎◌, [], true, false, IfOk, length, replicate, slice_index_or};
-ghost use Rattle.hy_connect.specs.Takers.{HaveClosed, IsGoing, TellsTaken};
+ghost use Rattle.hy_connect.specs.Takers.{ComesAsPut, HaveClosed, IsGoing, TellsTaken};
 
 use al_value::NoMemory;
 use hy_frame::{Bank, Frame};
+use hy_job::Wire;
 use hy_mail::{Parcel, Port};
 use std::alloc::Global;
 use std::marker::Model;
@@ -40,9 +41,16 @@ impl Model for WireTaker {
 }
 
 impl WireTaker {
-    /// A taker from the one mailbox of these, which has so many senders, or from none where there is no sender.
-    pub fn new(alloc: Global, boxes: &[u32], senders: u32) -> Result<WireTaker, NoMemory>
-        requires { ((length boxes.now ≡ 1) × (0 < senders)) ⊎ ((boxes.now ≡ []) × (senders ≡ 0)) }
+    /// A taker from the one mailbox of these, which has so many senders, or from none where there is no sender. The
+    /// wire is none that merges.
+    pub fn new(
+        alloc: Global,
+        wire: &Wire,
+        boxes: &[u32],
+        senders: u32,
+    ) -> Result<WireTaker, NoMemory>
+        requires wire { ComesAsPut wire.now }
+        requires boxes { ((length boxes.now ≡ 1) × (0 < senders)) ⊎ ((boxes.now ≡ []) × (senders ≡ 0)) }
         ensures mailbox { IfOk result (λ t. t.mailbox ≡ slice_index_or boxes.now 0 0) }
         ensures closed { IfOk result (λ t. t.closed ≡ replicate senders false) }
     {

@@ -1,12 +1,12 @@
 //! What a task writes through.
 ghost use Rattle.std.specs.Prelude.{◌≡◌, ◌≢◌, ◌⊎◌, ◌+◌, ◌<◌, ◌≤◌, ℕ, [], length, map, true, false, IfOk};
 ghost use Rattle.hy_driver.specs.Rows.{values_of};
-ghost use Rattle.hy_connect.specs.Outlets.{Pops, held_of};
+ghost use Rattle.hy_connect.specs.Outlets.{Pops, closed, failed, held_of, posted};
 ghost use Rattle.hy_connect.specs.Routes.{HasColumns};
-ghost use Rattle.hy_connect.specs.Writers.{Fails, IsAsFar, IsIdle, IsNew, MayPut, TellsOffer, TellsWritten, Writes, outlet, receivers};
+ghost use Rattle.hy_connect.specs.Writers.{AddsParcels, Fails, IsAsFar, IsIdle, IsNew, MayPut, TellsOffer, TellsWritten, Writes, outlet, receivers};
 ghost use Rattle.hy_mail.specs.Events.{Full, Put};
 ghost use Rattle.hy_mail.specs.declared.parcel.Parcel.{Parcel};
-ghost use Rattle.hy_connect.specs.Many.{AreDifferent};
+ghost use Rattle.hy_connect.specs.Many.{AreDifferent, Each};
 
 use crate::outlet::Outlet;
 use crate::outlets::{Mark, close_all, fail_all, make_outlets, next_waiting, post_all};
@@ -153,6 +153,8 @@ impl FrameWriter for WireWriter {
         ensures held { held_of self.new.outlets ≡ held_of self.old.outlets }
         ensures made { (self.new.arity ≡ self.old.arity) × (self.new.unit ≡ self.old.unit) × (length self.new.outlets ≡ length self.old.outlets) }
         ensures told { Writes self.old [] self.new }
+        ensures parcels { AddsParcels 1 self.old self.new }
+        ensures posts { Each (posted Parcel.Open) self.old.outlets self.new.outlets }
     {
         post_all(&mut self.outlets, Mark::Open);
         self.state = WriterState::Opened;
@@ -200,6 +202,8 @@ impl FrameWriter for WireWriter {
         ensures bank { (bank.new.unit ≡ bank.old.unit) × (bank.new.limit ≡ bank.old.limit) }
         ensures made { (self.new.arity ≡ self.old.arity) × (self.new.unit ≡ self.old.unit) × (length self.new.outlets ≡ length self.old.outlets) }
         ensures told { Fails self.old self.new }
+        ensures parcels { AddsParcels 1 self.old self.new }
+        ensures posts { Each failed self.old.outlets self.new.outlets }
     {
         fail_all(&mut self.outlets, bank);
         self.state = WriterState::Failed;
@@ -215,6 +219,9 @@ impl FrameWriter for WireWriter {
         ensures out { bank.new.out + held_of self.old.outlets ≡ bank.old.out }
         ensures bank { (bank.new.unit ≡ bank.old.unit) × (bank.new.limit ≡ bank.old.limit) }
         ensures told { Writes self.old [] self.new }
+        ensures parcels { AddsParcels 2 self.old self.new }
+        ensures posts { Each closed self.old.outlets self.new.outlets }
+        ensures ends { self.old.state ≡ WriterState.Failed → Each (posted Parcel.Close) self.old.outlets self.new.outlets }
     {
         close_all(&mut self.outlets, bank);
         self.state = WriterState::Closed;

@@ -9,3 +9,4 @@ mod order;
 pub use build::SortBuild;
 pub use emit::SortEmit;
 pub use laws::{sort_cases, sort_laws};
+pub use order::cmp_rows;

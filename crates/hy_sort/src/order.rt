@@ -59,8 +59,8 @@ fn cmp_columns(j: usize, a: &RowRef<'_>, b: &RowRef<'_>) -> Ordering
     }
 }
 
-/// The order of two rows by the keys.
-fn cmp_rows(keys: &[SortKey], a: &RowRef<'_>, b: &RowRef<'_>) -> Ordering
+/// The order of two rows by the keys. A column that is out of range counts as NULL.
+pub fn cmp_rows(keys: &[SortKey], a: &RowRef<'_>, b: &RowRef<'_>) -> Ordering
     ensures { result ≡ spec.keys_cmp keys.now (values_of a.now) (values_of b.now) }
 {
     match keys {

@@ -1,0 +1,22 @@
+use Rattle.std.proofs.Common.{◌<◌, ◌≤◌, length, arith}
+use Rattle.hy_connect.specs.Sources.{frames_held}
+use Rattle.hy_connect.proofs.Hands.{let_go_next, source_held}
+use Rattle.hy_connect.proofs.source.let_all_go.Goals as goal
+
+pub let_go-requires : goal.let_go-requires
+let_go-requires c =
+    let ys = c.loop-s.sources.items in
+    let count = c.loop-s.invariant.0.count in
+    let len = c.args.sources.now.ok.0 in
+    let low : c.loop-s.s < length ys = omega arith in
+    let out = c.loop-s.invariant.1.out in
+    let le : frames_held ys ≤ c.loop-s.bank.out = omega arith in
+    source_held ys c.loop-s.s c.loop-s.bank.out c.index_mut.result.now low c.index_mut.ensures.value le
+
+pub loop-s-preserved : goal.loop-s-preserved
+loop-s-preserved c =
+    let ys = c.loop-s.sources.items in
+    let count = c.loop-s.invariant.0.count in
+    let len = c.args.sources.now.ok.0 in
+    let low : c.loop-s.s < length ys = omega arith in
+    let_go_next c.args.sources.now.items ys c.loop-s.s c.index_mut.result.now c.let_go.new.self c.args.bank.now c.loop-s.bank c.let_go.new.bank low c.index_mut.ensures.value c.loop-s.invariant c.let_go.ensures.source c.let_go.ensures.bank
