@@ -1,0 +1,5 @@
+pub mod WayLaws
+pub mod PackLaws
+pub mod OfferLaws
+pub mod EndLaws
+pub mod CaseLaws

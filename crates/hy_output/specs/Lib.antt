@@ -1,0 +1,4 @@
+pub mod Keeper
+pub mod Ways
+pub mod Outputs
+pub mod Cases
