@@ -47,14 +47,6 @@ fn refusal(alloc: Global, plan: &str) -> Result<String, Fail> {
     }
 }
 
-/// How many times the job on 4 partitions has to end one activity before it begins another.
-fn blocks(alloc: Global, plan: &str) -> Option<usize> {
-    match compile(alloc, plan.as_bytes(), 4) {
-        Ok(compiled) => Some(compiled.job.blocks.len()),
-        Err(_) => None,
-    }
-}
-
 #[test]
 fn a_question_is_answered(rt: HostRuntime) -> Result<(), Fail> {
     let question = Question { department: "X" };
@@ -68,9 +60,22 @@ fn a_question_is_answered(rt: HostRuntime) -> Result<(), Fail> {
 #[test]
 fn a_question_becomes_a_job(rt: HostRuntime) -> Result<(), Fail> {
     let plan = Question { department: "Y" }.plan(rt.alloc())?;
-    // the parts of the sum are summed up as they come
-    assert_eq!(&rt; blocks(rt.alloc(), plan.as_str()), Some(0));
-    Ok(())
+    has_no_block(&rt, plan.as_str())
+}
+
+/// On 4 partitions no activity of the plan's job has to end before another begins: the parts of the sum
+/// are summed up as they come.
+fn has_no_block(rt: &HostRuntime, plan: &str) -> Result<(), Fail> {
+    match compile(rt.alloc(), plan.as_bytes(), 4) {
+        Ok(compiled) => {
+            assert_eq!(rt; compiled.job.blocks.len(), 0);
+            Ok(())
+        }
+        Err(_) => {
+            assert!(rt; false);
+            Ok(())
+        }
+    }
 }
 
 #[test]
