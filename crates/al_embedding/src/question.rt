@@ -1,6 +1,7 @@
 use al_io::{MemSink, MemSource};
 use al_query::{Status, compile, plain_command};
 use std::alloc::Global;
+use std::process::Abort;
 use std::test::Fail;
 
 const EMP: &str = "id,name,dept,pay\n1,Ann,X,10\n2,Bob,Y,20\n3,Cy,X,7\n";
@@ -60,13 +61,13 @@ fn a_question_is_answered(rt: HostRuntime) -> Result<(), Fail> {
 #[test]
 fn a_question_becomes_a_job(rt: HostRuntime) -> Result<(), Fail> {
     let plan = Question { department: "Y" }.plan(rt.alloc())?;
-    has_no_block(&rt, plan.as_str())
+    has_no_block(&rt, rt.alloc(), plan.as_str())
 }
 
 /// On 4 partitions no activity of the plan's job has to end before another begins: the parts of the sum
 /// are summed up as they come.
-fn has_no_block(rt: &HostRuntime, plan: &str) -> Result<(), Fail> {
-    match compile(rt.alloc(), plan.as_bytes(), 4) {
+fn has_no_block(rt: &impl Abort, alloc: Global, plan: &str) -> Result<(), Fail> {
+    match compile(alloc, plan.as_bytes(), 4) {
         Ok(compiled) => {
             assert_eq!(rt; compiled.job.blocks.len(), 0);
             Ok(())
