@@ -1,26 +1,23 @@
 -- What the steps of small tasks may do and may not.
-use Rattle.std.proofs.Common.{◌≡◌, ◌≢◌, ◌↔◌, ◌<◌, ◌≤◌, ◌+◌, inl, inr, ℕ, zero, suc, nat_eq, Bool, true, false, ◌&&◌, ◌||◌, if◌then◌else◌, Option, Some, None, List, [], ◌∷◌, ◌++◌, map, filter, length, length-append, refl, ap, sym, subst, ◌∙◌, append_assoc, append-nil, arith}
-use Rattle.std.specs.List.{All, AllByRecursion, Contains}
+use Rattle.std.proofs.Common.{◌≡◌, ◌↔◌, ◌<◌, ◌+◌, inl, inr, ℕ, zero, suc, nat_eq, Bool, true, false, ◌||◌, Some, None, List, [], ◌∷◌, ◌++◌, filter, length, length-append, refl, ap, sym, subst, ◌∙◌, append_assoc, append-nil, arith}
+use Rattle.std.specs.List.{All}
 use Rattle.std.specs.List.Sorted.{IsPermutation}
 use Rattle.std.proofs.lemmas.List.Elements.{All-contains, All-from_recursion, All-nil, filter-append}
 use Rattle.std.proofs.lemmas.List.Sorted.{Contains-permutation, IsPermutation-refl}
 use Rattle.al_func.specs.declared.rex.Rex.{Rex}
 use Rattle.hy_rest.specs.Words.{Signal, Open, Rows, Fail, Close, WriterWord, is_fail, put_rows}
 use Rattle.hy_job.specs.declared.job.Kind.TheVariants as K
-use Rattle.hy_job.specs.declared.job.Activity.{Activity}
 use Rattle.hy_job.specs.declared.job.Job.{Job}
 use Rattle.hy_job.specs.Columns.{Row, holds, part_of}
-use Rattle.hy_job.specs.Cases.{act, is_text}
-use Rattle.hy_job.specs.Runs.{IsReceiver, IsSender, Put, Receives, Taken, TaskRun, rows_at}
-use Rattle.hy_job.specs.Settled.{Check, Completed, HasCause, Outcome, Stopped, Store, Take, TakesFrom, has_closed, is_fault, taken_rows}
-use Rattle.hy_job.specs.SettledCases.{checking}
-use Rattle.hy_job.proofs.CheckCases.{rows_append}
+use Rattle.hy_job.specs.Cases.{is_text}
+use Rattle.hy_job.specs.Runs.{IsReceiver, IsSender, Put, Receives, Taken, rows_at}
+use Rattle.hy_job.specs.Settled.{Check, HasCause, Outcome, Stopped, Store, Take, TakesFrom, is_fault, taken_rows}
 use Rattle.hy_job.proofs.Members.{by_cases, in_cases, in_here, in_none, no_bool}
 use Rattle.hy_job.proofs.Settling.{below_one, below_two}
-use Rattle.hy_course.specs.Task.{Advances, Breaks, Deed, IsFrontOf, Looks, MayComeTo, Moves, Puts, Raises, Takes, TaskOf, Work, put_behind, puts_of, takes_of}
+use Rattle.hy_course.specs.Task.{Advances, Breaks, Deed, Looks, Puts, Takes, Work}
 use Rattle.hy_course.specs.Course.{IsDoneTask, IsNewTask, Ran}
 use Rattle.hy_course.proofs.ListLaws.{put_append}
-use Rattle.hy_course.specs.Cases.{CheckMoves, CheckPuts, CloseAloneIsNone, CloseIsCounted, DoneOwesNothing, FailStopsIt, FailureStays, FaultIsMetInWork, IsWholeCourse, LostRowIsNone, OwedIsPut, RaisesForFaults, SelectIsDone, SelectMoves, SelectPuts, SelectsAll, SelectsWhole, SightStopsIt, StrayIsNone, StrayRowFailsNone, TakenRowWaits, TestedRowFails, TestedRowPasses, UnowedRowIsNone, WaitingRowIsPut, WrongReceiverIsNone, came, check, failed, for_first, none_closed, nothing, part_for, passing, scan_closed, select, selects, sent_part, to_both}
+use Rattle.hy_course.specs.Cases.{CheckMoves, CheckPuts, IsWholeCourse, SelectIsDone, SelectMoves, SelectPuts, both_closed, came, check, failed, failed_and_closed, first_closed, for_first, none_closed, nothing, part_for, passing, results, scan_closed, select, selects, to_both}
 
 -- ---- rows of a select
 
@@ -80,8 +77,11 @@ module _ (set : List ℕ) (c : Rex) where
 
   pub taken_row_waits : (row : Row) → SelectMoves set c (select c nothing none_closed) (Takes 0 1 (Rows (row ∷ []))) (select c (λ r. part_for c r (row ∷ [])) none_closed)
   taken_row_waits row = record {
-    goes = (refl, advances (came (Rows (row ∷ [])) ∷ []) nothing (λ r. part_for c r (row ∷ [])) none_closed none_closed (row ∷ []) (λ more. refl) (λ r. refl)
-        (All-from_recursion (λ (t : Take). is_fail t.signal ≡ false) (came (Rows (row ∷ [])) ∷ []) (refl, tt)));
+    goes = (
+      refl,
+      advances (came (Rows (row ∷ [])) ∷ []) nothing (λ r. part_for c r (row ∷ [])) none_closed none_closed (row ∷ []) (λ more. refl) (λ r. refl)
+          (All-from_recursion (λ (t : Take). is_fail t.signal ≡ false) (came (Rows (row ∷ [])) ∷ []) (refl, tt)),
+    );
     from = from_scan (Rows (row ∷ []));
     to = tt;
     closed = λ input sender. refl;
@@ -259,28 +259,36 @@ module _ (set : List ℕ) (c : Rex) where
   some_failure : (outcome : Outcome) → Some outcome ≡ None → ⊥
   some_failure outcome e = cc
 
+  scan_is_closed : (input sender : ℕ) → IsSender (passing set c) (selects c) 1 input sender → scan_closed input sender ≡ true
+  scan_is_closed input sender is = below_one (λ k. IsSender (passing set c) (selects c) 1 k sender → scan_closed k sender ≡ true) at_first input is.known is
+    where
+      at_first : IsSender (passing set c) (selects c) 1 0 sender → scan_closed 0 sender ≡ true
+      at_first one = let e : 1 ≡ sender = one.sends in subst (λ s. scan_closed 0 s ≡ true) e refl
+
   done_select : SelectIsDone set c (select c nothing scan_closed)
   done_select = record {
     rest = λ e s. (record { to = λ r. []; on = [] }, puts_none c, λ r lt. refl, refl);
     untested = λ e. refl;
     owed = λ n. absurd (n refl);
     nothing = λ n. refl;
+    closed = scan_is_closed;
     raised = refl;
   }
 
-  done_failed : (outcome : Outcome) (raised : Bool) → raised ≡ is_fault outcome → SelectIsDone set c (record (failed c outcome (λ r. [])) { raised = raised })
+  done_failed : (outcome : Outcome) (raised : Bool) → raised ≡ is_fault outcome → SelectIsDone set c (record (failed_and_closed c outcome (λ r. [])) { raised = raised })
   done_failed outcome raised e = record {
     rest = λ e. absurd (some_failure outcome e);
     untested = λ e. refl;
     owed = λ n r is. refl;
     nothing = λ n. refl;
+    closed = scan_is_closed;
     raised = e;
   }
 
   pub done_owes_nothing : (row : Row) → SelectIsDone set c (select c nothing scan_closed)
-      × SelectIsDone set c (failed c Stopped (λ r. []))
+      × SelectIsDone set c (failed_and_closed c Stopped (λ r. []))
       × (SelectIsDone set c (select c (for_first (row ∷ []) []) scan_closed) → ⊥)
-      × (SelectIsDone set c (failed c Stopped (λ r. Close ∷ [])) → ⊥)
+      × (SelectIsDone set c (failed_and_closed c Stopped (λ r. Close ∷ [])) → ⊥)
   done_owes_nothing row = (
     done_select,
     done_failed Stopped false refl,
@@ -291,10 +299,30 @@ module _ (set : List ℕ) (c : Rex) where
       no_close : (s : Signal Row) → s ∷ [] ≡ [] → ⊥
       no_close s e = cc
 
-  pub raises_for_faults : SelectIsDone set c (record (failed c Store (λ r. [])) { raised = true })
+  pub close_is_awaited : (SelectIsDone set c (select c nothing none_closed) → ⊥) × (SelectIsDone set c (failed c Stopped (λ r. [])) → ⊥)
+  close_is_awaited = (λ d. no_bool (sym (d.closed 0 1 (from_scan Close).0)), λ d. no_bool (sym (d.closed 0 1 (from_scan Close).0)))
+
+  pub both_are_awaited : IsDoneTask (passing set c) results 1 (record (failed c Stopped (λ r. [])) { closed = both_closed })
+      × (IsDoneTask (passing set c) results 1 (record (failed c Stopped (λ r. [])) { closed = first_closed }) → ⊥)
+  both_are_awaited = (
+    record {
+      rest = λ e. absurd (some_failure Stopped e);
+      untested = λ e. refl;
+      owed = λ n r is. refl;
+      nothing = λ n. refl;
+      closed = λ input sender is. below_one (λ k. both_closed k sender ≡ true) (below_two (λ s. both_closed 0 s ≡ true) refl refl sender is.within) input is.known;
+      raised = refl;
+    },
+    λ d. no_bool (sym (d.closed 0 1 from_second)),
+  )
+    where
+      from_second : IsSender (passing set c) results 1 0 1
+      from_second = let lt : 1 < 2 = omega arith in record { known = omega arith; within = lt; sends = lt }
+
+  pub raises_for_faults : SelectIsDone set c (record (failed_and_closed c Store (λ r. [])) { raised = true })
       × (SelectIsDone set c (record (select c nothing scan_closed) { raised = true }) → ⊥)
-      × (SelectIsDone set c (record (failed c Stopped (λ r. [])) { raised = true }) → ⊥)
-      × (SelectIsDone set c (failed c Store (λ r. [])) → ⊥)
+      × (SelectIsDone set c (record (failed_and_closed c Stopped (λ r. [])) { raised = true }) → ⊥)
+      × (SelectIsDone set c (failed_and_closed c Store (λ r. [])) → ⊥)
   raises_for_faults = (done_failed Store true refl, λ d. no_bool d.raised, λ d. no_bool d.raised, λ d. no_bool (sym d.raised))
 
   -- ---- from its beginning to its end

@@ -1,17 +1,16 @@
 -- The record of a task that is done.
-use Rattle.std.proofs.Common.{◌≡◌, ◌≢◌, ◌⊎◌, inl, inr, ◌<◌, ℕ, Bool, true, false, ◌||◌, Option, Some, None, List, [], ◌∷◌, ◌++◌, refl, ap, sym, subst, ◌∙◌, append-nil}
-use Rattle.std.specs.List.{All, Contains}
+use Rattle.std.proofs.Common.{◌≡◌, ◌≢◌, ◌⊎◌, inl, inr, ℕ, Bool, true, false, ◌||◌, Option, Some, None, List, [], ◌++◌, refl, ap, sym, subst, ◌∙◌, append-nil}
+use Rattle.std.specs.List.{Contains}
 use Rattle.std.specs.List.Sorted.{IsPermutation}
 use Rattle.std.proofs.lemmas.List.Elements.{Contains-append_right}
-use Rattle.hy_rest.specs.Words.{Signal, Fail, Close, WriterWord, is_fail, put_rows}
+use Rattle.hy_rest.specs.Words.{Signal, is_fail, put_rows}
 use Rattle.hy_job.specs.declared.job.Activity.{Activity}
 use Rattle.hy_job.specs.declared.job.Job.{Job}
 use Rattle.hy_job.specs.Columns.{Row}
-use Rattle.hy_job.specs.Runs.{IsReceiver, Put, Receives, Taken, TaskRun, rows_at}
-use Rattle.hy_job.specs.Settled.{Check, Completed, HasCause, HasWords, IsCompleted, IsFailed, IsPassed, NoMemory, Outcome, Stopped, StopsBy, Store, Take, TaskRecord, given, has_closed, taken_rows}
-use Rattle.hy_progress.specs.Ends.{MeetsParts}
-use Rattle.hy_course.specs.Task.{Advances, IsCheck, TaskOf, put_behind}
-use Rattle.hy_course.specs.Course.{Broke, DoneMeets, IsDoneTask, IsNewTask, Ran, Went, outcome_of, record_of}
+use Rattle.hy_job.specs.Runs.{Receives, TaskRun, rows_at}
+use Rattle.hy_job.specs.Settled.{Check, Completed, HasCause, IsCompleted, IsFailed, IsPassed, NoMemory, Outcome, Stopped, StopsBy, Store, Take, TaskRecord, given, has_closed, taken_rows}
+use Rattle.hy_course.specs.Task.{Advances, TaskOf, put_behind}
+use Rattle.hy_course.specs.Course.{AllClosed, Broke, DoneMeets, IsDoneTask, IsNewTask, Went, outcome_of, record_of}
 use Rattle.hy_course.proofs.ListLaws.{comes_by, passed_all}
 
 -- who stops tells why
@@ -21,6 +20,10 @@ stops_by Stopped r h = h refl
 stops_by (Check name) r h = tt
 stops_by Store r h = tt
 stops_by NoMemory r h = tt
+
+unclosed : (x y : Bool) → y ≡ false → (x || y) ≡ x
+unclosed true y z = refl
+unclosed false y z = z
 
 some_is_none : (outcome : Outcome) → Some outcome ≡ None → ⊥
 some_is_none outcome e = cc
@@ -74,17 +77,13 @@ module _ (job : Job) (a : Activity) (j : ℕ) (scanned handed : List Row) (first
         ends = λ r is. sym (append-nil (put r)) ∙ (ap (λ xs. put r ++ xs) (sym (ends.owed failed r is)) ∙ b.ends r is);
         part = λ more may.
             let q = b.part sound more (comes_by job a j (has_closed b.before) (λ input sender. has_closed b.before input sender || first.closed input sender)
-                (λ input sender. unclosed (has_closed b.before input sender) (first.closed input sender) (begins.closed input sender)) more may) in (
+            (λ input sender. unclosed (has_closed b.before input sender) (first.closed input sender) (begins.closed input sender)) more may) in (
               q.0,
               record { to = q.1; on = (q.0.on, ap (λ xs. xs ++ q.0.on) (sym (ends.nothing failed))) },
               begins.rest sound (taken_rows b.before ++ more) q.0 q.2,
             );
         cause = subst (λ o. HasCause a.kind o (rows_at 0 (taken_rows b.before))) (sym (ap outcome_of e)) (subst (λ xs. HasCause a.kind outcome (xs ++ rows_at 0 (taken_rows b.before))) begins.untested b.cause);
       }
-    where
-      unclosed : (x y : Bool) → y ≡ false → (x || y) ≡ x
-      unclosed true y z = refl
-      unclosed false y z = z
 
   -- ---- by its end
 
@@ -114,3 +113,7 @@ done_meets first last job a j scanned handed took put begins sound ran ends word
       raised = ends.raised;
       stopped = stopped_by job a j scanned handed first last took put begins sound ends last.failure refl went;
     }
+
+pub all_closed : (first last : TaskOf) → AllClosed first last
+all_closed first last job a j scanned handed took put begins ran ends input sender is =
+    sym (unclosed (has_closed took input sender) (first.closed input sender) (begins.closed input sender)) ∙ (sym (ran.closed input sender) ∙ ends.closed input sender is)

@@ -3,3 +3,4 @@ pub mod StepLaws
 pub mod DoneLaws
 pub mod PartLaws
 pub mod CaseLaws
+pub mod PartCaseLaws

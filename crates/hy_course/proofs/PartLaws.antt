@@ -3,7 +3,7 @@ use Rattle.std.proofs.Common.{◌≡◌, ◌<◌, ◌≤◌, inl, inr, ℕ, zero
 use Rattle.std.specs.List.{All, AllByRecursion}
 use Rattle.std.proofs.lemmas.Bool.{cases_lt}
 use Rattle.std.proofs.lemmas.List.Elements.{All-nil, recursion_from_All}
-use Rattle.hy_rest.specs.Words.{Signal, put_rows}
+use Rattle.hy_rest.specs.Words.{put_rows}
 use Rattle.hy_job.specs.declared.job.Activity.{Activity}
 use Rattle.hy_job.specs.declared.job.Job.{Job}
 use Rattle.hy_job.specs.Columns.{AreValues, Row}
@@ -11,9 +11,9 @@ use Rattle.hy_job.specs.Drivers.{received_of}
 use Rattle.hy_job.specs.Runs.{Put, Taken}
 use Rattle.hy_job.specs.Settled.{taken_rows}
 use Rattle.hy_job.specs.Sound.{inputs, width_in}
-use Rattle.hy_job.proofs.Boxes.{is_nat, nat_is}
+use Rattle.hy_job.proofs.Boxes.{is_nat}
 use Rattle.hy_job.proofs.Drivers.{new_drivers_give}
-use Rattle.hy_job.proofs.Members.{by_cases, nat_same, no_bool}
+use Rattle.hy_job.proofs.Members.{by_cases, nat_same}
 use Rattle.hy_job.proofs.RunRows.{all_append, all_map}
 use Rattle.hy_course.specs.Task.{MayComeTo, TaskOf, put_behind}
 use Rattle.hy_course.specs.Parts.{AreAlive, DonePartsRest, Fed, LivingPartsPut, NewPartsRun, PartsAdvance, PartsBreak, PartsContinue, PartsOf, RestOf, WaitingIsFront}
@@ -24,10 +24,10 @@ pub received_append : (xs ys : List Fed) (input : ℕ) → received_of (xs ++ ys
 received_append [] ys input = refl
 received_append (x ∷ xs) ys input = by_cases (nat_eq x.0 input) (λ t. rw t (ap (λ rows. x.1 ∷ rows) (received_append xs ys input))) (λ f. rw f (received_append xs ys input))
 
-abbrev at_input : ℕ → List Row → List Fed
+abbrev pub at_input : ℕ → List Row → List Fed
 at_input k rows = map (λ row. (k, row)) rows
 
-received_mine : (k : ℕ) (rows : List Row) → received_of (at_input k rows) k ≡ rows
+pub received_mine : (k : ℕ) (rows : List Row) → received_of (at_input k rows) k ≡ rows
 received_mine k [] = refl
 received_mine k (row ∷ rows) = rw (nat_same k) (ap (λ xs. row ∷ xs) (received_mine k rows))
 
@@ -57,12 +57,12 @@ fed_each zero rows input lt = absurd (omega (arith, lt))
 fed_each (suc n) rows input lt =
     let by : received_of (all_fed n rows) input ++ received_of (at_input n (rows n)) input ≡ rows input = elim (cases_lt input n) [
       | inl less ↦
-        ap (λ xs. xs ++ received_of (at_input n (rows n)) input) (fed_each n rows input less)
-        ∙ (ap (λ xs. rows input ++ xs) (received_other n input (rows n) (beyond n input less)) ∙ append-nil (rows input))
+          ap (λ xs. xs ++ received_of (at_input n (rows n)) input) (fed_each n rows input less)
+          ∙ (ap (λ xs. rows input ++ xs) (received_other n input (rows n) (beyond n input less)) ∙ append-nil (rows input))
       | inr more ↦
-        (let same : input ≡ n = omega (arith, lt, more) in
-        ap (λ xs. xs ++ received_of (at_input n (rows n)) input) (fed_none n rows input more)
-        ∙ subst (λ k. received_of (at_input n (rows n)) k ≡ rows k) (sym same) (received_mine n (rows n)))
+          (let same : input ≡ n = omega (arith, lt, more) in
+          ap (λ xs. xs ++ received_of (at_input n (rows n)) input) (fed_none n rows input more)
+          ∙ subst (λ k. received_of (at_input n (rows n)) k ≡ rows k) (sym same) (received_mine n (rows n)))
     ] in
     received_append (all_fed n rows) (at_input n (rows n)) input ∙ by
 

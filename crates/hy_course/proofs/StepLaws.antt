@@ -1,6 +1,6 @@
 -- How steps are put together.
-use Rattle.std.proofs.Common.{◌≡◌, ◌≢◌, ◌⊎◌, inl, inr, ◌<◌, ℕ, nat_eq, Bool, true, false, ◌||◌, Option, Some, None, List, [], ◌∷◌, ◌++◌, refl, ap, sym, subst, ◌∙◌, append_assoc, append-nil}
-use Rattle.std.specs.List.{All, Contains}
+use Rattle.std.proofs.Common.{◌≡◌, ◌≢◌, ◌⊎◌, inl, inr, ℕ, nat_eq, Bool, true, false, ◌||◌, Option, Some, None, List, [], ◌∷◌, ◌++◌, refl, ap, sym, subst, ◌∙◌, append_assoc, append-nil}
+use Rattle.std.specs.List.{Contains}
 use Rattle.std.specs.List.Sorted.{IsPermutation}
 use Rattle.std.proofs.lemmas.List.Elements.{All-append, All-nil, Contains-append_left}
 use Rattle.std.proofs.lemmas.List.Sorted.{IsPermutation-refl}
@@ -9,12 +9,12 @@ use Rattle.hy_job.specs.declared.job.Activity.{Activity}
 use Rattle.hy_job.specs.declared.job.Job.{Job}
 use Rattle.hy_job.specs.Columns.{Row}
 use Rattle.hy_job.specs.Runs.{IsReceiver, IsSender, Put, Taken, rows_at}
-use Rattle.hy_job.specs.Settled.{Completed, HasCause, Outcome, Stopped, Take, TakesFrom, has_closed, is_fault, taken_rows}
+use Rattle.hy_job.specs.Settled.{Completed, HasCause, Outcome, Stopped, Take, has_closed, is_fault, taken_rows}
 use Rattle.hy_job.proofs.Members.{by_cases, in_here, no_bool}
 use Rattle.hy_job.proofs.Boxes.{is_nat}
 use Rattle.hy_job.proofs.RunRows.{all_append}
-use Rattle.hy_course.specs.Task.{Advances, Breaks, Deed, Goes, Looks, MayBreak, MayComeTo, Moves, Puts, Raises, Takes, TaskOf, ToReceiver, Work, is_raise, is_sight, put_behind, puts_of, takes_of}
-use Rattle.hy_course.specs.Course.{Broke, MovesRan, NoneRan, Ran, RanThen, Went}
+use Rattle.hy_course.specs.Task.{Advances, Breaks, Deed, Goes, Looks, MayBreak, MayComeTo, Puts, Raises, Takes, TaskOf, ToReceiver, Work, is_raise, is_sight, put_behind, puts_of, takes_of}
+use Rattle.hy_course.specs.Course.{Broke, MovesRan, NoneRan, RanThen, Went}
 use Rattle.hy_course.proofs.ListLaws.{among_first, cause_from, closed_then, comes_by, first_rows, front_behind, passed_append, passed_none, put_twice, taken_behind, tested_then}
 
 -- ---- one step
@@ -150,7 +150,7 @@ module _ (job : Job) (a : Activity) (j : ℕ) (first second third : TaskOf) (too
     ends = λ r is. append_assoc (put r) (put' r) (third.owed r) ∙ (ap (λ xs. put r ++ xs) (b.ends r is) ∙ sym (append_assoc (put r) (b.kept r) (Fail ∷ Close ∷ [])));
     part = λ s more may.
         let q = b.part (x.sound s) more (comes_by job a j (λ input sender. has_closed (took ++ b.before) input sender || first.closed input sender) (λ input sender. has_closed b.before input sender || second.closed input sender)
-            (λ input sender. sym (closed_then took b.before first.closed second.closed closed input sender)) more may) in (
+        (λ input sender. sym (closed_then took b.before first.closed second.closed closed input sender)) more may) in (
           put_behind put q.0,
           front_behind job put b.kept q.0 q.1,
           subst (λ xs. first.rest xs (put_behind put q.0)) (taken_behind took b.before more) (x.rest s (taken_rows b.before ++ more) q.0 q.2),

@@ -1,5 +1,5 @@
 -- Small tasks, and what their steps may do and may not.
-use Rattle.std.specs.Prelude.{◌≡◌, ◌↔◌, ◌<◌, ℕ, zero, suc, nat_eq, Bool, true, false, ◌&&◌, if◌then◌else◌, Some, None, List, [], ◌∷◌, ◌++◌, filter}
+use Rattle.std.specs.Prelude.{◌≡◌, ◌↔◌, ◌<◌, ℕ, zero, suc, nat_eq, Bool, true, false, ◌&&◌, ◌||◌, if◌then◌else◌, Some, None, List, [], ◌∷◌, ◌++◌, filter}
 use Rattle.al_func.specs.declared.rex.Rex.{Rex}
 use Rattle.hy_rest.specs.Words.{Signal, Open, Rows, Fail, Close, WriterWord}
 use Rattle.hy_job.specs.declared.job.Kind.TheVariants as K
@@ -11,7 +11,7 @@ use Rattle.hy_job.specs.Columns.{Row, holds, part_of}
 use Rattle.hy_job.specs.Runs.{Put, Taken, rows_at}
 use Rattle.hy_job.specs.Settled.{Check, Outcome, Stopped, Store, Take}
 use Rattle.hy_job.specs.SettledCases.{checking}
-use Rattle.hy_course.specs.Task.{Deed, Looks, Moves, Puts, Raises, Takes, TaskOf, Work}
+use Rattle.hy_course.specs.Task.{Deed, Looks, Moves, Puts, Takes, TaskOf, Work}
 use Rattle.hy_course.specs.Course.{IsDoneTask, IsNewTask, Ran}
 
 -- ---- a select
@@ -27,6 +27,9 @@ passing set c = record {
 
 abbrev pub selects : Rex → Activity
 selects c = act 1 (K.Select c) 1
+
+abbrev pub results : Activity
+results = act 2 (K.Result (0 ∷ [])) 1
 
 -- of these rows, those for the receiver
 abbrev pub sent_part : ℕ → List Row → List Row
@@ -84,6 +87,17 @@ none_closed input sender = false
 
 abbrev pub scan_closed : ℕ → ℕ → Bool
 scan_closed input sender = nat_eq 0 input && nat_eq 1 sender
+
+-- one that failed, and took the Close of its sender
+abbrev pub failed_and_closed : Rex → Outcome → (ℕ → List (Signal Row)) → TaskOf
+failed_and_closed c outcome owed = record (failed c outcome owed) { closed = scan_closed }
+
+-- at the result: by the select of the first partition, and by that of the second too
+abbrev pub first_closed : ℕ → ℕ → Bool
+first_closed input sender = nat_eq 0 input && nat_eq 0 sender
+
+abbrev pub both_closed : ℕ → ℕ → Bool
+both_closed input sender = first_closed input sender || scan_closed input sender
 
 -- a step of the select in the second partition
 abbrev pub SelectMoves : List ℕ → Rex → TaskOf → Deed → TaskOf → Type 0
@@ -206,17 +220,29 @@ SelectIsDone set c t = IsDoneTask (passing set c) (selects c) 1 t
 abbrev pub DoneOwesNothing : Type 0
 DoneOwesNothing = (set : List ℕ) (c : Rex) (row : Row)
     → SelectIsDone set c (select c nothing scan_closed)
-    × SelectIsDone set c (failed c Stopped (λ r. []))
+    × SelectIsDone set c (failed_and_closed c Stopped (λ r. []))
     × (SelectIsDone set c (select c (for_first (row ∷ []) []) scan_closed) → ⊥)
-    × (SelectIsDone set c (failed c Stopped (λ r. Close ∷ [])) → ⊥)
+    × (SelectIsDone set c (failed_and_closed c Stopped (λ r. Close ∷ [])) → ⊥)
+
+-- where the Close of a sender is still to come it isn't done, whether it failed or not
+abbrev pub CloseIsAwaited : Type 0
+CloseIsAwaited = (set : List ℕ) (c : Rex)
+    → (SelectIsDone set c (select c nothing none_closed) → ⊥)
+    × (SelectIsDone set c (failed c Stopped (λ r. [])) → ⊥)
+
+-- the result has two senders: it is done with the Close of both, and not with that of one
+abbrev pub BothAreAwaited : Type 0
+BothAreAwaited = (set : List ℕ) (c : Rex)
+    → IsDoneTask (passing set c) results 1 (record (failed c Stopped (λ r. [])) { closed = both_closed })
+    × (IsDoneTask (passing set c) results 1 (record (failed c Stopped (λ r. [])) { closed = first_closed }) → ⊥)
 
 -- who raised without a fault isn't done, nor who met a fault and did not raise
 abbrev pub RaisesForFaults : Type 0
 RaisesForFaults = (set : List ℕ) (c : Rex)
-    → SelectIsDone set c (record (failed c Store (λ r. [])) { raised = true })
+    → SelectIsDone set c (record (failed_and_closed c Store (λ r. [])) { raised = true })
     × (SelectIsDone set c (record (select c nothing scan_closed) { raised = true }) → ⊥)
-    × (SelectIsDone set c (record (failed c Stopped (λ r. [])) { raised = true }) → ⊥)
-    × (SelectIsDone set c (failed c Store (λ r. [])) → ⊥)
+    × (SelectIsDone set c (record (failed_and_closed c Stopped (λ r. [])) { raised = true }) → ⊥)
+    × (SelectIsDone set c (failed_and_closed c Store (λ r. [])) → ⊥)
 
 -- ---- from its beginning to its end
 

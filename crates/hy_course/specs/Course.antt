@@ -1,11 +1,11 @@
 -- What became of a task over many steps, and what its record then is.
-use Rattle.std.specs.Prelude.{◌≡◌, ◌≢◌, ◌⊎◌, ◌<◌, ℕ, Bool, true, false, ◌||◌, Option, Some, None, List, [], ◌∷◌, ◌++◌}
+use Rattle.std.specs.Prelude.{◌≡◌, ◌≢◌, ◌⊎◌, ◌<◌, ℕ, true, false, ◌||◌, Option, Some, None, List, [], ◌∷◌, ◌++◌}
 use Rattle.std.specs.List.{Contains}
 use Rattle.hy_rest.specs.Words.{Signal, Fail, Close, WriterWord, is_fail}
 use Rattle.hy_job.specs.declared.job.Activity.{Activity}
 use Rattle.hy_job.specs.declared.job.Job.{Job}
 use Rattle.hy_job.specs.Columns.{Row}
-use Rattle.hy_job.specs.Runs.{IsReceiver, Put, Taken, TaskRun, rows_at}
+use Rattle.hy_job.specs.Runs.{IsReceiver, IsSender, Put, Taken, TaskRun, rows_at}
 use Rattle.hy_job.specs.Settled.{Completed, HasCause, Outcome, Stopped, Take, TakesFrom, TakesNoFail, TaskRecord, has_closed, is_fault, taken_rows}
 use Rattle.hy_progress.specs.Ends.{MeetsParts}
 use Rattle.hy_course.specs.Task.{Advances, Deed, IsFrontOf, MayComeTo, Moves, TaskOf, puts_of, takes_of}
@@ -66,6 +66,8 @@ pub record IsDoneTask (job : Job) (a : Activity) (j : ℕ) (t : TaskOf) : Type 0
   -- one that failed owes nothing and hands nothing on
   pub owed : (t.failure ≡ None → ⊥) → (r : ℕ) → IsReceiver job a.number j r → t.owed r ≡ []
   pub nothing : (t.failure ≡ None → ⊥) → t.hands_on ≡ []
+  -- it took the Close of each sender, whether it failed or not
+  pub closed : (input sender : ℕ) → IsSender job a j input sender → t.closed input sender ≡ true
   -- it raised the abort word exactly where it met a fault
   pub raised : t.raised ≡ is_fault (outcome_of t.failure)
 
@@ -104,3 +106,9 @@ DoneMeets first last = (job : Job) (a : Activity) (j : ℕ) (scanned handed : Li
     → IsNewTask job a j scanned handed first → first.sound → Ran job a j first took put last → IsDoneTask job a j last
     → ((r : ℕ) → r < job.partitions → IsReceiver job a.number j r → WriterWord (put r))
     → MeetsParts job a j (record_of scanned handed took put last)
+
+-- from its beginning to its end a task takes the Close of each sender
+abbrev pub AllClosed : TaskOf → TaskOf → Type 0
+AllClosed first last = (job : Job) (a : Activity) (j : ℕ) (scanned handed : List Row) (took : List Take) (put : ℕ → List (Signal Row))
+    → IsNewTask job a j scanned handed first → Ran job a j first took put last → IsDoneTask job a j last
+    → (input sender : ℕ) → IsSender job a j input sender → has_closed took input sender ≡ true

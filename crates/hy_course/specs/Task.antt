@@ -1,15 +1,15 @@
 -- A task at a moment, as its record sees it, and what a step does to it.
-use Rattle.std.specs.Prelude.{◌≡◌, ◌≢◌, ◌<◌, ℕ, nat_eq, Bool, true, false, ◌||◌, if◌then◌else◌, Option, Some, None, List, [], ◌∷◌, ◌++◌}
+use Rattle.std.specs.Prelude.{◌≡◌, ◌<◌, ℕ, nat_eq, Bool, true, false, ◌||◌, if◌then◌else◌, Option, Some, None, List, [], ◌∷◌, ◌++◌}
 use Rattle.std.specs.List.{All, AllByRecursion}
 use Rattle.std.specs.List.Sorted.{IsPermutation}
-use Rattle.hy_rest.specs.Words.{Signal, Open, Rows, Fail, Close, is_fail, put_rows}
+use Rattle.hy_rest.specs.Words.{Signal, Fail, Close, is_fail, put_rows}
 use Rattle.hy_job.specs.declared.job.Kind.{Kind}
 use Rattle.hy_job.specs.declared.job.Kind.TheVariants as K
 use Rattle.hy_job.specs.declared.job.Activity.{Activity}
 use Rattle.hy_job.specs.declared.job.Job.{Job}
 use Rattle.hy_job.specs.Columns.{Row}
 use Rattle.hy_job.specs.Runs.{IsReceiver, MayCome, Put, Taken, rows_at}
-use Rattle.hy_job.specs.Settled.{Completed, HasCause, IsPassed, Outcome, Stopped, Take, TakesFrom, TakesNoFail, has_closed, is_fault, taken_rows}
+use Rattle.hy_job.specs.Settled.{HasCause, IsPassed, Outcome, Stopped, Take, TakesFrom, TakesNoFail, has_closed, is_fault, taken_rows}
 
 pub record TaskOf : Type 1 where
   -- what holds between its steps and makes `rest` true of it. Of a task with a store it says that the store tells

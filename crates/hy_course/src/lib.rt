@@ -4,4 +4,4 @@
 
 mod laws;
 
-pub use laws::{course_cases, course_laws, made_laws, part_laws, HasCourse, HasParts};
+pub use laws::{HasCourse, HasParts, course_cases, course_laws, made_laws, part_cases, part_laws};

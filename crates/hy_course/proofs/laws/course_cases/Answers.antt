@@ -1,4 +1,4 @@
-use Rattle.hy_course.proofs.CaseLaws.{close_alone_is_none, close_is_counted, done_owes_nothing, fail_stops_it, failure_stays, fault_is_met_in_work, lost_row_is_none, owed_is_put, raises_for_faults, selects_all, selects_whole, sight_stops_it, stray_is_none, stray_row_fails_none, taken_row_waits, tested_row_fails, tested_row_passes, unowed_row_is_none, waiting_row_is_put, wrong_receiver_is_none}
+use Rattle.hy_course.proofs.CaseLaws.{both_are_awaited, close_alone_is_none, close_is_awaited, close_is_counted, done_owes_nothing, fail_stops_it, failure_stays, fault_is_met_in_work, lost_row_is_none, owed_is_put, raises_for_faults, selects_all, selects_whole, sight_stops_it, stray_is_none, stray_row_fails_none, taken_row_waits, tested_row_fails, tested_row_passes, unowed_row_is_none, waiting_row_is_put, wrong_receiver_is_none}
 use Rattle.hy_course.proofs.laws.course_cases.Goals as goal
 
 pub returns-clause-taken : goal.returns-clause-taken
@@ -51,6 +51,12 @@ returns-clause-fails c = tested_row_fails
 
 pub returns-clause-done : goal.returns-clause-done
 returns-clause-done c = done_owes_nothing
+
+pub returns-clause-awaited : goal.returns-clause-awaited
+returns-clause-awaited c = close_is_awaited
+
+pub returns-clause-both_awaited : goal.returns-clause-both_awaited
+returns-clause-both_awaited c = both_are_awaited
 
 pub returns-clause-raises : goal.returns-clause-raises
 returns-clause-raises c = raises_for_faults

@@ -1,5 +1,5 @@
 use Rattle.hy_course.proofs.StepLaws.{moves_ran, none_ran, ran_then}
-use Rattle.hy_course.proofs.DoneLaws.{done_meets}
+use Rattle.hy_course.proofs.DoneLaws.{all_closed, done_meets}
 use Rattle.hy_course.proofs.laws.course_laws.Goals as goal
 
 pub returns-clause-one : goal.returns-clause-one
@@ -13,3 +13,6 @@ returns-clause-ran_then g c first second third = ran_then (g.T.HasCourse.course 
 
 pub returns-clause-done : goal.returns-clause-done
 returns-clause-done g c first last = done_meets (g.T.HasCourse.course first) (g.T.HasCourse.course last)
+
+pub returns-clause-all_closed : goal.returns-clause-all_closed
+returns-clause-all_closed g c first last = all_closed (g.T.HasCourse.course first) (g.T.HasCourse.course last)
