@@ -1,0 +1,4 @@
+pub mod Places
+pub mod Owned
+pub mod Finding
+pub mod Cases
