@@ -14,4 +14,12 @@ pub mod Read
 pub mod Faults
 pub mod Staged
 pub mod Finds
+pub mod Whole
+pub mod Fronts
+pub mod Took
+pub mod Step
+pub mod ScanWidths
+pub mod Given
+pub mod Runs
+pub mod Failing
 pub mod AnswerCases

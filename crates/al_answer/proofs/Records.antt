@@ -49,7 +49,7 @@ use Rattle.al_answer.proofs.Induction.{result_allowed}
 -- ---- choices
 
 -- of each number below another one, what was chosen
-choice : {X : Type 0} (P : ℕ → X → Type 0) (d : X) (n : ℕ) → ((j : ℕ) → j < n → (x : X) × P j x) → (f : ℕ → X) × ((j : ℕ) → j < n → P j (f j))
+pub choice : {X : Type 0} (P : ℕ → X → Type 0) (d : X) (n : ℕ) → ((j : ℕ) → j < n → (x : X) × P j x) → (f : ℕ → X) × ((j : ℕ) → j < n → P j (f j))
 choice P d zero h = (λ j. d, λ j lt. absurd (omega (arith, lt)))
 choice {X} P d (suc n) h =
     let less = choice P d n (λ j lt. h j (omega (arith, lt))) in
@@ -63,17 +63,17 @@ choice {X} P d (suc n) h =
     below : (j m : ℕ) → j < suc m → nat_eq j m ≡ false → j < m
     below j m lt f = grind (arith, lt, f)
 
-abbrev first : ℕ → List ℕ → ℕ
+abbrev pub first : ℕ → List ℕ → ℕ
 first k [] = k
 first k (x ∷ xs) = x
 
-abbrev rest : List ℕ → List ℕ
+abbrev pub rest : List ℕ → List ℕ
 rest [] = []
 rest (x ∷ xs) = xs
 
 -- of each activity, by its number
 module _ {X : Type 0} (S : Activity → X → Type 0) (d : X) where
-  later : (s : ℕ) (acts : List Activity) → map (λ (a : Activity). a.number) acts ≡ range_with_len s (length acts) → AllByRecursion (λ (a : Activity). s ≤ a.number) acts
+  pub later : (s : ℕ) (acts : List Activity) → map (λ (a : Activity). a.number) acts ≡ range_with_len s (length acts) → AllByRecursion (λ (a : Activity). s ≤ a.number) acts
   later s [] e = tt
   later s (a ∷ acts) e = (omega (arith, ap (first 0) e), weaken (λ (b : Activity). s + 1 ≤ b.number) (λ (b : Activity). s ≤ b.number) (λ b h. omega (arith, h)) acts (later (s + 1) acts (ap rest e)))
 
@@ -135,6 +135,25 @@ passed_received (K.JoinBuild arg) job a took rows receives h = tt
 passed_received (K.JoinProbe arg) job a took rows receives h = tt
 passed_received (K.AggPart made) job a took rows receives h = tt
 passed_received (K.AggFinal made) job a took rows receives h = tt
+
+-- ---- edges and blocks
+
+-- where an edge ends there is such an input
+pub input_known : (job : Job) → SoundJob job → (a : Activity) → Contains job.activities a → (e : Edge) → Contains job.edges e → e.to ≡ a.number → e.input < inputs a.kind
+input_known job sound a member e m to =
+    let into = in_filter (λ (z : Edge). nat_eq z.to a.number) job.edges e (nat_is e.to a.number to) m in
+    let fed = each_member (λ (b : Activity). IsPermutation (range_with_len 0 (inputs b.kind)) (map (λ (z : Edge). z.input) (edges_into job b.number))) job.activities sound.fed a member in
+    omega (arith, (from_range 0 (inputs a.kind) e.input (Contains-permutation _ _ e.input (IsPermutation-sym _ _ fed) (in_map (λ (z : Edge). z.input) (edges_into job a.number) e into))).1)
+
+no_edges : (es : List Edge) → ((e : Edge) → Contains es e → ⊥) → es ≡ []
+no_edges [] h = refl
+no_edges (e ∷ es) h = absurd (h e (in_here e es))
+
+-- no edge leaves the first of two activities
+pub blocked : (job : Job) → SoundJob job → (b : Block) → Contains job.blocks b → edges_from job b.before ≡ []
+blocked job sound b m =
+    no_edges (edges_from job b.before)
+    (λ e c. (let f = from_filter (λ (z : Edge). nat_eq z.from b.before) job.edges e c in target_none job.edges b.before (block_leaves job sound b m) e f.0 (is_nat e.from b.before f.1)))
 
 -- ---- a job that was run to its end
 
@@ -213,10 +232,7 @@ module _ (ph : Phys) (n : ℕ) (sets : Sets) (stages : List Stage) (records : Re
     made_by s lt = subst (λ (k : ℕ). MadeBy (job_of ph n) source.0 s (records k s) (flow.made k s)) source.2 (let w = is_work source.0 source.1 s lt in (w.run, w.made))
 
     known : e.input < inputs target.0.kind
-    known =
-        let into = in_filter (λ (z : Edge). nat_eq z.to target.0.number) (job_of ph n).edges e (nat_is e.to target.0.number (sym target.2)) m in
-        let fed = each_member (λ (b : Activity). IsPermutation (range_with_len 0 (inputs b.kind)) (map (λ (z : Edge). z.input) (edges_into (job_of ph n) b.number))) (job_of ph n).activities sound.fed target.0 target.1 in
-        omega (arith, (from_range 0 (inputs target.0.kind) e.input (Contains-permutation _ _ e.input (IsPermutation-sym _ _ fed) (in_map (λ (z : Edge). z.input) (edges_into (job_of ph n) target.0.number) e into))).1)
+    known = input_known (job_of ph n) sound target.0 target.1 e m (sym target.2)
 
     comes : (r : ℕ) → r < n → ComesBy e.wire n e.input (taken_rows (records e.to r).took) (flow.received e.to r e.input)
     comes r lt =
@@ -232,10 +248,6 @@ module _ (ph : Phys) (n : ℕ) (sets : Sets) (stages : List Stage) (records : Re
 
   -- ---- what is handed on
 
-  no_edges : (es : List Edge) → ((e : Edge) → Contains es e → ⊥) → es ≡ []
-  no_edges [] h = refl
-  no_edges (e ∷ es) h = absurd (h e (in_here e es))
-
   -- where no edge leaves, what is made is handed on
   kept : (a : Activity) → Contains (job_of ph n).activities a → (k : ℕ) → a.number ≡ k → edges_from (job_of ph n) k ≡ [] → (j : ℕ) → j < n → (records k j).hands_on ≡ flow.made k j
   kept a m k is none j lt =
@@ -246,8 +258,7 @@ module _ (ph : Phys) (n : ℕ) (sets : Sets) (stages : List Stage) (records : Re
   handed b m j lt =
       let end = block_ends (job_of ph n) sound b m in
       let a = activity_at (job_of ph n) sound b.before (omega (arith, block_rises (job_of ph n) sound b m, end)) in
-      let none = no_edges (edges_from (job_of ph n) b.before) (λ e c. (let f = from_filter (λ (z : Edge). nat_eq z.from b.before) (job_of ph n).edges e c in target_none (job_of ph n).edges b.before (block_leaves (job_of ph n) sound b m) e f.0 (is_nat e.from b.before f.1))) in
-      ran.settled.handed b j m (staged b.after end) lt ∙ kept a.0 a.1 b.before a.2 none j lt
+      ran.settled.handed b j m (staged b.after end) lt ∙ kept a.0 a.1 b.before a.2 (blocked (job_of ph n) sound b m) j lt
 
   all_flows : Flows n false sets flow (job_of ph n).activities (job_of ph n).edges (job_of ph n).blocks
   all_flows = record {

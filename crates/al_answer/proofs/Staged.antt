@@ -28,7 +28,7 @@ use Rattle.al_answer.proofs.Pieces.{RunsIn, last_source, last_one, last_two, las
 -- ---- stages
 
 -- an edge's activities are in one stage
-staged_edge : (job : Job) (before : List ℕ) (stages : List Stage) → AreNext job before stages → (e : Edge) → Contains job.edges e → Contains (activities_in stages) e.to → Contains (activities_in stages) e.from
+pub staged_edge : (job : Job) (before : List ℕ) (stages : List Stage) → AreNext job before stages → (e : Edge) → Contains job.edges e → Contains (activities_in stages) e.to → Contains (activities_in stages) e.from
 unfolding AreNext
 staged_edge job before [] next e m c = absurd (in_none e.to c)
 staged_edge job before (s ∷ stages) next e m c = elim (Contains-append_cases s.activities (activities_in stages) e.to c) [
@@ -37,7 +37,7 @@ staged_edge job before (s ∷ stages) next e m c = elim (Contains-append_cases s
 ]
 
 -- the first of two activities is in a stage before
-staged_block : (job : Job) (before : List ℕ) (stages : List Stage) → AreNext job before stages → (b : Block) → Contains job.blocks b → Contains (activities_in stages) b.after → Contains (before ++ activities_in stages) b.before
+pub staged_block : (job : Job) (before : List ℕ) (stages : List Stage) → AreNext job before stages → (b : Block) → Contains job.blocks b → Contains (activities_in stages) b.after → Contains (before ++ activities_in stages) b.before
 unfolding AreNext
 staged_block job before [] next b m c = absurd (in_none b.after c)
 staged_block job before (s ∷ stages) next b m c = elim (Contains-append_cases s.activities (activities_in stages) b.after c) [

@@ -1,5 +1,5 @@
 -- The fault of a check that received a row which is not TRUE.
-use Rattle.std.specs.Prelude.{◌≡◌, ◌<◌, ℕ, Bool, true, false, List, []}
+use Rattle.std.specs.Prelude.{◌≡◌, ◌<◌, ℕ, Bool, true, false, List, [], ◌∷◌, ◌++◌}
 use Rattle.std.specs.List.{Contains}
 use Rattle.al_plan.specs.declared.expr.Expr.{Expr}
 use Rattle.al_plan.specs.Eval.{Bytes}
@@ -17,11 +17,12 @@ use Rattle.hy_job.specs.declared.job.Job.{Job}
 use Rattle.hy_job.specs.declared.job.Stage.{Stage}
 use Rattle.hy_job.specs.Columns.{Row, holds}
 use Rattle.hy_job.specs.Stages.{AreNext, activities_in}
-use Rattle.hy_job.specs.Settled.{IsFaulty}
+use Rattle.hy_job.specs.Settled.{IsFaulty, Records, Check}
 use Rattle.al_jobgen.specs.Columns.{rex_of}
 use Rattle.al_jobgen.specs.JobOf.{piece_of, last_of, job_of}
 use Rattle.al_jobgen.specs.Added.{activities_from}
 use Rattle.al_answer.specs.Flow.{Flow, Works, Carries, HandsOn, Flows}
+use Rattle.al_answer.specs.Answer.{IsRun, AllCompleted}
 
 -- where the activities of a check and those below it did whole runs, reading checks as passing all rows on, and the check
 -- received a row that is not TRUE, the plan that it is a part of faults by its name
@@ -40,3 +41,9 @@ pub record FlowsIn (job : Job) (stages : List Stage) (passing : Bool) (sets : Se
 abbrev pub FlowsFault : Type 0
 FlowsFault = (ph : Phys) (n : ℕ) (sets : Sets) (stages : List Stage) (flow : Flow) → 0 < n → Placed ph n → Fills (phys_scans ph) sets → AreNext (job_of ph n) [] stages → FlowsIn (job_of ph n) stages true sets flow
     → (a : Activity) (j : ℕ) (name : Bytes) → Contains (job_of ph n).activities a → Contains (activities_in stages) a.number → j < n → IsFaulty a.kind name (flow.received a.number j 0) → PFaults ph sets n name
+
+-- where a task of the last of these stages stopped by a check of this name, all tasks of the stages before having completed,
+-- the physical plan faults by it
+abbrev pub JobFaults : Type 0
+JobFaults = (ph : Phys) (n : ℕ) (sets : Sets) (before : List Stage) (last : Stage) (records : Records) → IsRun ph n sets (before ++ last ∷ []) records → AreNext (job_of ph n) [] (before ++ last ∷ [])
+    → AllCompleted (job_of ph n) before records → (a j : ℕ) (name : Bytes) → Contains last.activities a → j < n → (records a j).outcome ≡ Check name → PFaults ph sets n name

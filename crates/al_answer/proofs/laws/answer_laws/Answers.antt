@@ -1,6 +1,7 @@
 use Rattle.al_answer.proofs.Records.{job_computes}
 use Rattle.al_answer.proofs.Faults.{checks_fault}
 use Rattle.al_answer.proofs.Finds.{flows_fault}
+use Rattle.al_answer.proofs.Failing.{job_faults}
 use Rattle.al_answer.proofs.Read.{answers_allowed, faults_are_faults}
 use Rattle.al_answer.proofs.laws.answer_laws.Goals as goal
 
@@ -18,3 +19,6 @@ returns-clause-checks c = checks_fault
 
 pub returns-clause-flows : goal.returns-clause-flows
 returns-clause-flows c = flows_fault
+
+pub returns-clause-fails : goal.returns-clause-fails
+returns-clause-fails c = job_faults
