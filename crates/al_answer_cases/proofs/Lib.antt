@@ -1,0 +1,5 @@
+pub mod Listing
+pub mod Tasks
+pub mod Grouping
+pub mod Counting
+pub mod Joining

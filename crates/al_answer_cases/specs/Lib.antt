@@ -1,0 +1,2 @@
+pub mod ListCases
+pub mod RecordCases

@@ -1,0 +1,2 @@
+pub mod Funcs
+pub mod Files

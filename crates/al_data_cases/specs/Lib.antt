@@ -1,0 +1,2 @@
+pub mod FuncCases
+pub mod FileCases

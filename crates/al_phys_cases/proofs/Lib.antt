@@ -1,0 +1,10 @@
+pub mod Two
+pub mod Exchanges
+pub mod Hashing
+pub mod GroupRows
+pub mod Standing
+pub mod Failing
+pub mod FailingJoins
+pub mod Inner
+pub mod Each
+pub mod Stretching

@@ -1,0 +1,5 @@
+pub mod PartCases
+pub mod StandCases
+pub mod InnerCases
+pub mod EachPartCases
+pub mod StretchCases

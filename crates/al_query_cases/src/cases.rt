@@ -1,0 +1,15 @@
+ghost use Rattle.al_query_cases.specs.DueCases.{AbsentPlan, CutsBefore, MayEndSo, NoWords, RunIsUnserved};
+
+use al_words::one_command;
+
+/// Words and files, and which statuses are due for them. It does nothing: its clauses are worked
+/// cases.
+pub fn due_cases()
+    ensures absent { AbsentPlan }
+    ensures no_words { NoWords }
+    ensures run { RunIsUnserved }
+    ensures cut { CutsBefore }
+    ensures may_end { MayEndSo }
+{
+    one_command();
+}
