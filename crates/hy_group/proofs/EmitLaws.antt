@@ -172,20 +172,6 @@ module _ (fixed : Fixed) (none : fixed.check ≡ None) (arity : ℕ) (arg : Grou
         },
       )
 
-  pub emit_asks : (at : ℕ) (entries entries' : List Entry) (out : Fields) (ended : Bool) (phase : Phase) → (entries ≡ []) × (entries' ≡ []) → ended ≡ false → phase ≢ GivenUp → (phase ≡ Ended → ended ≡ true)
-      → TellsTurn (emit_state fixed arity arg rows at entries ended phase store) out (emit_state fixed arity arg rows at entries' ended Hungry store) N.NeedInput
-  emit_asks at (e ∷ es) entries' out ended phase gone open_ live over = absurd (cc)
-  emit_asks at [] (e ∷ es) out ended phase gone open_ live over = absurd (cc)
-  emit_asks at [] [] out ended phase gone open_ live over =
-      let turns = turns_asking phase live (λ e. true≢false (sym (over e) ∙ open_)) in
-      let fewer : 4 * (length rows - at) + (0 + turns_in Hungry) ≤ 4 * (length rows - at) + (0 + turns_in phase) = omega (arith, turns.0) in (
-        refl,
-        fewer,
-        (λ e. let less : turns_in Hungry < turns_in phase = turns.1 e in omega (arith, less)),
-        step at at [] [] ended ended (ends_none (one_ended ended)) phase Hungry [] tt [] (λ h. h) (λ h put r. r),
-        (0, open_),
-      )
-
   -- ---- at the beginning
 
   first_rest : (b : Bool) → going 0 ≡ b → (put : List Row) → Rests b [] put ↔ IsGroupOf arg (map values_of rows) put

@@ -1,6 +1,7 @@
 pub mod BuildLaws
 pub mod FieldLaws
 pub mod PairLaws
+pub mod ResidualLaws
 pub mod KeyLaws
 pub mod RightLaws
 pub mod LeftLaws

@@ -3,17 +3,10 @@ use Rattle.std.proofs.Common.{◌≡◌, ◌+◌, ◌&&◌, ℕ, Bool, true, fal
 use Rattle.std.proofs.lemmas.List.{map-append, length-append}
 use Rattle.al_func.specs.Rex.{IsSound}
 use Rattle.al_func.specs.declared.rex.Rex.{Rex}
-use Rattle.al_func.specs.declared.rex.Rex.TheVariants as R
-use Rattle.al_func.proofs.RexLaws.{eval_rex-Lit}
-use Rattle.al_func.specs.Func.{is_true}
-use Rattle.al_value.specs.declared.value.Value.{Value}
 use Rattle.hy_frame.specs.Row.{Fields, IsRow}
 use Rattle.hy_driver.specs.Rows.{Row, value_of, values_of}
 use Rattle.hy_job.specs.Columns.{are_keys_equal, holds, is_pair}
 use Rattle.hy_job.specs.declared.job.JoinArg.{JoinArg}
-
-pub literal_holds : (rest : Rex) (row : Row) (v : Value) (b : Bool) → rest ≡ R.Lit v → b ≡ is_true v → b ≡ holds rest row
-literal_holds rest row v b is same = same ∙ sym (ap (λ (e : Rex). holds e row) is ∙ ap is_true (eval_rex-Lit v row))
 
 pub values_of_both : (left right : Fields) → values_of (left ++ right) ≡ values_of left ++ values_of right
 unfolding values_of
@@ -36,4 +29,4 @@ as_rest arg lefts rights left right out same b is_left is_right is so both rest 
 pub row_of_both : (left right out : Fields) → out ≡ left ++ right → IsRow (length out) out → IsRow (length left + length right) out
 row_of_both left right out is row = subst (λ (n : ℕ). IsRow n out) (ap (λ (r : Fields). length r) is ∙ length-append left right) row
 
-pub ruleset pair_laws = (literal_holds, reads_both, no_pair, as_rest, row_of_both)
+pub ruleset pair_laws = (reads_both, no_pair, as_rest, row_of_both)

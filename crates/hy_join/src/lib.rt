@@ -10,6 +10,7 @@ mod laws;
 mod left;
 mod pair;
 mod probe;
+mod residual;
 mod right;
 
 pub use build::JoinBuild;

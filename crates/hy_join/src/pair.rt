@@ -1,39 +1,17 @@
 //! Whether a left and a right row are joined, and the row that comes of them.
 
 ghost use Rattle.std.specs.Prelude.{◌≡◌, ◌≤◌, ◌+◌, ◌++◌, length, true, IfOk};
-ghost use Rattle.al_func.specs.Func.{is_true as spec_true};
 ghost use Rattle.al_func.specs.Rex.{IsSound};
 ghost use Rattle.hy_driver.specs.Rows.{values_of};
 ghost use Rattle.hy_frame.specs.Row.{IsRow};
 ghost use Rattle.hy_job.specs.Columns as spec;
 
 use crate::fields::{put_both, same_keys};
-use al_func::Rex;
-use al_value::{NoMemory, Value};
+use crate::residual::rest_holds;
+use al_value::NoMemory;
 use hy_frame::{MAX_FIELDS, RowBuf, RowRef};
-use hy_job::{JoinArg, holds};
-use hy_rows::values_in;
+use hy_job::JoinArg;
 use std::alloc::Global;
-
-/// Whether a value is TRUE.
-fn is_true(v: &Value) -> bool
-    ensures { result ≡ spec_true v.now }
-{
-    matches!(v, Value::Bool(true))
-}
-
-/// Whether a condition is TRUE over a row. A literal, as equal keys alone leave it, reads no field.
-#[tactic(auto, using(hy_rows::proofs::RowLaws::row_laws, crate::proofs::PairLaws::pair_laws))]
-fn rest_holds(alloc: Global, rest: &Rex, row: &RowRef<'_>) -> Result<bool, NoMemory>
-    requires { IsSound (length row.now) rest.now }
-    ensures { IfOk result (λ b. b ≡ spec.holds rest.now (values_of row.now)) }
-{
-    if let Rex::Lit(v) = rest {
-        return Ok(is_true(v));
-    }
-    let values = values_in(alloc, row)?;
-    holds(alloc, rest, values.as_slice())
-}
 
 /// Whether two rows are joined. Where they are, their row is put in place of the one that is there.
 #[tactic(auto, using(crate::proofs::PairLaws::pair_laws))]

@@ -1,6 +1,6 @@
 use Rattle.std.proofs.Common.{rules, ◌≡◌, [], refl}
 use Rattle.hy_group.specs.Joining.{handed_sees, kinds, kinds_of}
-use Rattle.hy_group.proofs.EmitLaws.{emit_asks, emit_ends, emit_gives, emit_works}
+use Rattle.hy_group.proofs.EmitLaws.{emit_ends, emit_gives, emit_works}
 use Rattle.hy_group.proofs.GiveLaws.{taken_none, taken_one}
 use Rattle.hy_group.proofs.GroupLaws.{front_right, right_added}
 use Rattle.hy_group.proofs.emit.GroupEmitDriver.next.Goals as goal
