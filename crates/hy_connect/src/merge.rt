@@ -76,7 +76,7 @@ impl MergeTaker {
         all_closed(&self.sources)
     }
 
-    /// The first sender that hasn't closed and has no row at hand, if there is one.
+    /// Whose row has to be taken before `next_row` can tell which is next: the first such sender, where there is one.
     pub fn wanted(&self) -> Option<u32>
         ensures some { IfSome result (λ s. IsWanted self.now.sources s) }
         ensures none { IfNone result (NoneLacks self.now.sources) }
@@ -85,7 +85,7 @@ impl MergeTaker {
         Some(s as u32)
     }
 
-    /// Takes what comes next of the first sender that hasn't closed and has no row at hand. A frame is kept at hand, or
+    /// Takes what comes next of the sender that `wanted` names. A frame is kept at hand, or
     /// handed on after `give_up`. It takes no memory.
     pub fn take<P: Port>(&mut self, port: &mut P, bank: &mut Bank) -> Taken
         requires may { MayTake self.old }

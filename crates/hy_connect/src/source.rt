@@ -218,7 +218,7 @@ pub(crate) fn all_closed(sources: &[Source]) -> bool
     true
 }
 
-/// The first sender that hasn't closed and has no row at hand.
+/// The first of them whose row has to be taken before it is known which row is next.
 pub(crate) fn wanted(sources: &[Source]) -> Option<usize>
     ensures some { IfSome result (λ s. IsWanted sources.now s) }
     ensures none { IfNone result (NoneLacks sources.now) }
