@@ -3,6 +3,7 @@ ghost use Rattle.std.specs.Prelude.{◌≡◌, IfOk};
 use crate::fault::NoMemory;
 use std::alloc::Global;
 use std::marker::Model;
+use std::mem;
 
 /// A `Box` that contracts see as its value, so that a copy equals what it copies.
 #[derive(Debug, Drop)]
@@ -30,6 +31,14 @@ impl<T> Boxed<T> {
     {
         let Boxed { inner } = self;
         Box::into_inner(inner)
+    }
+
+    /// Puts a value in, and hands out the one that was there. It takes no memory.
+    pub fn replace(&mut self, value: T) -> T
+        ensures put { self.new ≡ value }
+        ensures taken { result ≡ self.old }
+    {
+        mem::replace(&mut *self.inner, value)
     }
 }
 
