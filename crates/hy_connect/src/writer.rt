@@ -6,7 +6,8 @@ ghost use Rattle.hy_connect.specs.Routes.{HasColumns};
 ghost use Rattle.hy_connect.specs.Writers.{AddsParcels, Fails, IsAsFar, IsIdle, IsNew, MayPut, TellsOffer, TellsWritten, Writes, outlet, receivers};
 ghost use Rattle.hy_mail.specs.Events.{Full, Put};
 ghost use Rattle.hy_mail.specs.declared.parcel.Parcel.{Parcel};
-ghost use Rattle.hy_connect.specs.Many.{AreDifferent, Each};
+ghost use Rattle.hy_connect.specs.Many.{Each};
+ghost use Rattle.hy_places.specs.Places.{AreDifferent};
 
 use crate::outlet::Outlet;
 use crate::outlets::{Mark, close_all, fail_all, make_outlets, next_waiting, post_all};
