@@ -5,7 +5,7 @@ use Rattle.hy_frame.specs.Frame.{FrameOf}
 use Rattle.hy_mail.specs.declared.parcel.Parcel.{Parcel}
 use Rattle.hy_mail.specs.declared.parcel.Parcel.TheVariants as P
 use Rattle.hy_connect.specs.Outlets.{OutletOf, Exports, Grows, Pops, Sends, closed, emptied, failed, flushed, flushed_with, frames_in, frames_of, frames_waiting, outlet_at, posted}
-use Rattle.hy_connect.specs.Many.{Each, FillNone}
+use Rattle.hy_connect.specs.Many.{AreFresh, Each}
 use Rattle.hy_connect.proofs.Fronts.{read_at}
 
 -- ---- counts
@@ -83,6 +83,16 @@ waiting_same (x ∷ xs) (y ∷ ys) count e =
     let h = waiting_same xs ys (omega arith) (λ k low. e (suc k) (omega arith)) in
     let z : frames_in y.waits ≡ frames_in x.waits = e zero (omega arith) in
     omega arith
+
+none_waiting : (xs : List OutletOf) → ((k : ℕ) → k < length xs → (outlet_at xs k).waits ≡ []) → frames_waiting xs ≡ 0
+none_waiting [] h = refl
+none_waiting (x ∷ xs) h =
+    let r = none_waiting xs (λ k low. h (suc k) (omega arith)) in
+    let z : frames_in x.waits ≡ 0 = ap frames_in (h zero (omega arith)) in
+    omega arith
+
+pub fresh_waiting : (boxes : List ℕ) (xs : List OutletOf) → AreFresh boxes xs → frames_waiting xs ≡ 0
+fresh_waiting boxes xs h = none_waiting xs (λ k low. let c = h.count in (h.each k (omega arith)).waits)
 
 -- an Open more in each is no frame more
 pub waiting_opened : (xs ys : List OutletOf) → Each (posted P.Open) xs ys → frames_waiting ys ≡ frames_waiting xs

@@ -100,6 +100,7 @@ pub record IsNew (wire : Wire) (boxes : List ℕ) (unit arity : ℕ) (w : Writer
   pub mailbox : (k : ℕ) → k < length boxes → (outlet w k).mailbox ≡ slice_index_or boxes k 0
   pub waits : (k : ℕ) → k < length boxes → (outlet w k).waits ≡ []
   pub filling : (k : ℕ) → k < length boxes → (outlet w k).filling ≡ None
+  pub none : frames_waiting w.outlets ≡ 0
   pub state : w.state ≡ Initial
 
 -- it was given these rows: what it may offer now, it might offer before with these rows in front

@@ -56,6 +56,7 @@ impl Model for WireWriter {
 impl WireWriter {
     /// A writer over this wire, whose receivers have these mailboxes, in their order. Its rows have so many fields,
     /// and its frames this size.
+    #[tactic(auto, using(crate::proofs::Exporting::fresh_waiting))]
     pub fn new(
         alloc: Global,
         wire: &Wire,
