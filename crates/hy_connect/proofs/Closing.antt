@@ -12,9 +12,10 @@ use Rattle.hy_driver.specs.Rows.{Row}
 use Rattle.hy_connect.specs.declared.route.Route.{Route}
 use Rattle.hy_connect.specs.declared.route.Route.TheVariants as R
 use Rattle.hy_connect.specs.Routes.{fills}
-use Rattle.hy_connect.specs.Outlets.{OutletOf, Lent, Pops, blank, closed, failed, flushed, flushed_with, held_of, outlet_at, posted}
+use Rattle.hy_connect.specs.Outlets.{OutletOf, Exports, Lent, Pops, blank, closed, failed, flushed, flushed_with, frames_waiting, held_of, outlet_at, posted}
 use Rattle.hy_connect.specs.Many.{Each, FillNone, HaveRoom, HaveRoomToo, Rips, Spreads}
 use Rattle.hy_connect.specs.Writers.{AddsParcels, Fails, IsAsFar, IsWriter, SendsOn, Tears, TellsWritten, WriterOf, Writes, reserve, writer_of}
+use Rattle.hy_connect.proofs.Exporting.{waiting_opened}
 use Rattle.hy_connect.proofs.Held.{held_none, held_same}
 use Rattle.hy_connect.proofs.Writing.{closed_none, closed_quiet, closes, closing_room, far_same, failed_fails, failed_none, failed_quiet, failed_stays, opened_stays, opened_writes, pops_far, pops_sends, rips_tears, spread_writes}
 
@@ -141,6 +142,16 @@ module _ (self : WriterOf) (route : Route) (arity unit n : ℕ) (lent xs : List 
       let alone : Each (posted P.Close) xs ys = record { count = own.count; each = λ k low. own.each k low ∙ closed_quiet (outlet_at xs k) (quiet k low) } in
       subst (λ (l : List OutletOf). Each (posted P.Close) self.outlets l) (sym (back closed ys h))
       (subst (λ (l : List OutletOf). Each (posted P.Close) l ys) (ap (λ (w : WriterOf). w.outlets) p.view) alone)
+
+  -- ---- frames
+
+  pub open_waiting : (ys : List OutletOf) → Each (posted P.Open) lent ys → frames_waiting (written n ys xs) ≡ frames_waiting self.outlets
+  open_waiting ys h = ap frames_waiting (back (posted P.Open) ys h) ∙ waiting_opened lent ys h ∙ ap frames_waiting (p.value ∙ ap (λ (w : WriterOf). w.outlets) p.view)
+
+  pub all_exports : (ys : List OutletOf) (a b : BankOf) → length ys ≡ length lent → Exports (frames_waiting lent) (frames_waiting ys) a b → Exports (frames_waiting self.outlets) (frames_waiting (written n ys xs)) a b
+  all_exports ys a b count x =
+      subst (λ (l : List OutletOf). Exports (frames_waiting self.outlets) (frames_waiting l) a b) (sym (written_is n ys xs (count ∙ ap (λ (l : List OutletOf). length l) p.value) p.len))
+      (subst (λ (l : List OutletOf). Exports (frames_waiting l) (frames_waiting ys) a b) (p.value ∙ ap (λ (w : WriterOf). w.outlets) p.view) x)
 
   -- ---- rows
 

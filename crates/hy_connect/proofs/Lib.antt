@@ -14,3 +14,4 @@ pub mod Hands
 pub mod Leasts
 pub mod Merger
 pub mod MergeCaseProofs
+pub mod Exporting

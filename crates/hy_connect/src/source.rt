@@ -7,7 +7,7 @@ use crate::taker::Taken;
 use al_value::{NoMemory, SortKey};
 use hy_frame::{Bank, Frame, RowRef};
 use hy_mail::{Parcel, Port};
-use hy_sort::cmp_rows;
+use hy_rows::cmp_rows;
 use std::alloc::Global;
 use std::marker::Model;
 

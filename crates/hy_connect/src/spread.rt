@@ -3,7 +3,7 @@ ghost use Rattle.std.specs.Prelude.{◌≡◌, ◌≢◌, ◌+◌, ◌<◌, ◌�
 ghost use Rattle.hy_driver.specs.Rows.{values_of};
 ghost use Rattle.hy_frame.specs.Row.{IsRow};
 ghost use Rattle.hy_connect.specs.declared.route.Route.TheVariants.{Whole, ByHash as Hashed};
-ghost use Rattle.hy_connect.specs.Outlets.{Grows, Lent, Sends, held_of};
+ghost use Rattle.hy_connect.specs.Outlets.{Exports, Grows, Lent, Sends, frames_in, frames_waiting, held_of};
 ghost use Rattle.hy_connect.specs.Many.{AreOutlets, FillNone, FrontAdds, Rips, RipsTo, Spreads, SpreadsTo};
 
 use crate::outlet::Outlet;
@@ -18,6 +18,7 @@ fn copy_of(alloc: Global, bank: &mut Bank, frame: &Frame) -> Result<Frame, NoMem
     ensures copy { IfOk result (λ f. f ≡ frame.now) }
     ensures ok { OnOk result (Lent 0 1 bank.old bank.new) }
     ensures err { OnErr result (Lent 0 0 bank.old bank.new) }
+    ensures exports { (bank.new.exported ≡ bank.old.exported) × (bank.new.imported ≡ bank.old.imported) }
 {
     let mut copy = bank.take(alloc, frame.arity(), 0)?;
     match copy.copy_from(frame) {
@@ -41,6 +42,7 @@ fn send_copy(
     ensures ok { OnOk result (Sends outlet.old frame.now outlet.new) }
     ensures err { OnErr result (Grows outlet.old outlet.new) }
     ensures bank { Lent 0 0 bank.old bank.new }
+    ensures exports { Exports (frames_in outlet.old.waits) (frames_in outlet.new.waits) bank.old bank.new }
 {
     let copy = copy_of(alloc, bank, frame)?;
     outlet.send(bank, copy)
@@ -64,6 +66,7 @@ fn send_copies(
     ensures err { OnErr result (Rips Whole frame.now.arity outlets.old (map values_of frame.now.rows) outlets.new) }
     ensures none { FillNone outlets.new }
     ensures bank { Lent 0 0 bank.old bank.new }
+    ensures exports { Exports (frames_waiting outlets.old) (frames_waiting outlets.new) bank.old bank.new }
 {
     for k in 0..last {
         send_copy(alloc, &mut outlets[k], bank, frame)?;
@@ -89,6 +92,7 @@ pub(crate) fn spread_whole(
     ensures err { OnErr result (Rips Whole frame.arity outlets.old (map values_of frame.rows) outlets.new) }
     ensures none { FillNone outlets.new }
     ensures bank { Lent 1 0 bank.old bank.new }
+    ensures exports { Exports (frames_waiting outlets.old) (frames_waiting outlets.new) bank.old bank.new }
 {
     if frame.rows() == 0 {
         bank.give(frame);
@@ -121,6 +125,7 @@ fn spread_row(
     ensures ok { OnOk result (SpreadsTo k (length row.now) outlets.old (values_of row.now) outlets.new) }
     ensures err { OnErr result (RipsTo k (length row.now) outlets.old (values_of row.now) outlets.new) }
     ensures bank { Lent (held_of outlets.old) (held_of outlets.new) bank.old bank.new }
+    ensures exports { Exports (frames_waiting outlets.old) (frames_waiting outlets.new) bank.old bank.new }
 {
     buffer.copy_from(row)?;
     outlets[k].append(alloc, bank, buffer)
@@ -144,6 +149,7 @@ pub(crate) fn spread_by_hash(
     ensures ok { OnOk result (Spreads (Hashed columns.now) frame.now.arity outlets.old (map values_of frame.now.rows) outlets.new) }
     ensures err { OnErr result (Rips (Hashed columns.now) frame.now.arity outlets.old (map values_of frame.now.rows) outlets.new) }
     ensures bank { Lent (held_of outlets.old) (held_of outlets.new) bank.old bank.new }
+    ensures exports { Exports (frames_waiting outlets.old) (frames_waiting outlets.new) bank.old bank.new }
 {
     for i in 0..frame.rows() {
         let row = frame.row(i);

@@ -5,6 +5,7 @@ use Rattle.hy_driver.specs.Rows.{Row, values_of}
 use Rattle.hy_connect.specs.declared.route.Route.TheVariants.{ByHash}
 use Rattle.hy_connect.specs.Many.{Rips, Spreads}
 use Rattle.hy_connect.proofs.Adding.{err_given}
+use Rattle.hy_connect.proofs.Exporting.{exports_then}
 use Rattle.hy_connect.proofs.Held.{lent_then}
 use Rattle.hy_connect.proofs.Spreading.{rows_rip, rows_spread_more}
 use Rattle.hy_connect.proofs.spread.spread_by_hash.Goals as goal
@@ -42,4 +43,8 @@ loop-i-preserved c =
     subst (λ (n : ℕ). Spreads (ByHash columns) n c.loop-i.outlets (values_of row ∷ []) c.spread_row.new.outlets) wide (c.in_ok-spread_row.ensures.ok columns part) in (
       rows_spread_more (ByHash columns) arity i rows row c.args.outlets.now c.loop-i.outlets c.spread_row.new.outlets low c.row-row.ensures.row c.loop-i.invariant.0 spreads,
       lent_then _ _ _ _ _ _ c.loop-i.invariant.1 c.spread_row.ensures.bank,
+      exports_then _ _ _ c.args.bank.now c.loop-i.bank c.spread_row.new.bank c.loop-i.invariant.2 c.spread_row.ensures.exports,
     )
+
+pub returns-in_err-spread_row-clause-exports : goal.returns-in_err-spread_row-clause-exports
+returns-in_err-spread_row-clause-exports c = exports_then _ _ _ c.args.bank.now c.loop-i.bank c.spread_row.new.bank c.loop-i.invariant.2 c.spread_row.ensures.exports

@@ -5,6 +5,7 @@ use Rattle.hy_frame.specs.Row.{Fields}
 use Rattle.hy_connect.specs.declared.route.Route.TheVariants.{ByHash}
 use Rattle.hy_connect.specs.Outlets.{OutletOf, Adds, Cuts, IsOutlet}
 use Rattle.hy_connect.proofs.Adding.{err_given}
+use Rattle.hy_connect.proofs.Exporting.{exports_at}
 use Rattle.hy_connect.proofs.Fronts.{read_at}
 use Rattle.hy_connect.proofs.Held.{held_here, lent_at, room_here}
 use Rattle.hy_connect.proofs.Spreading.{rips_none, row_rips, row_spreads}
@@ -41,3 +42,6 @@ returns-clause-err c = on_err_weaker c.append.result
 
 pub returns-clause-bank : goal.returns-clause-bank
 returns-clause-bank c = lent_at c.args.outlets.now c.args.k _ c.index-outlets-k.result c.append.new.self c.args.bank.now c.append.new.bank c.requires.there refl c.append.ensures.bank
+
+pub returns-clause-exports : goal.returns-clause-exports
+returns-clause-exports c = exports_at c.args.outlets.now c.args.k c.index-outlets-k.result c.append.new.self c.args.bank.now c.append.new.bank c.requires.there c.append.ensures.exports
