@@ -14,4 +14,5 @@ pub mod Hands
 pub mod Leasts
 pub mod Merger
 pub mod MergeCaseProofs
+pub mod Waiting
 pub mod Exporting

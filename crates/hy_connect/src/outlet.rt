@@ -175,6 +175,7 @@ impl Outlet {
         requires { held_in self.old.filling ≤ bank.old.out }
         ensures ok { OnOk result ((arity : ℕ) → IsOutlet arity 2 self.old → Empties arity self.old self.new) }
         ensures err { OnErr result ((arity : ℕ) → IsOutlet arity 2 self.old → Loses arity self.old self.new) }
+        ensures parcels { length self.new.waits ≤ length self.old.waits + 1 }
         ensures bank { Lent (held_in self.old.filling) 0 bank.old bank.new }
         ensures exports { Exports (frames_in self.old.waits) (frames_in self.new.waits) bank.old bank.new }
     {
@@ -211,6 +212,7 @@ impl Outlet {
         requires outlet { IsOutlet (length row.now) 2 self.old }
         ensures ok { OnOk result (Adds (length row.now) self.old (values_of row.now ∷ []) self.new) }
         ensures err { OnErr result (Cuts (length row.now) self.old (values_of row.now ∷ []) self.new) }
+        ensures parcels { length self.new.waits ≤ length self.old.waits + 1 }
         ensures bank { Lent (held_in self.old.filling) (held_in self.new.filling) bank.old bank.new }
         ensures exports { Exports (frames_in self.old.waits) (frames_in self.new.waits) bank.old bank.new }
     {
@@ -227,6 +229,7 @@ impl Outlet {
         requires room { bank.old.out < bank.old.limit }
         ensures ok { OnOk result (IsOutlet (length row.now) 2 self.old → Adds (length row.now) self.old (values_of row.now ∷ []) self.new) }
         ensures err { OnErr result (self.new ≡ self.old) }
+        ensures waits { self.new.waits ≡ self.old.waits }
         ensures bank { Lent 0 (held_in self.new.filling) bank.old bank.new }
         ensures exports { Exports (frames_in self.old.waits) (frames_in self.new.waits) bank.old bank.new }
     {

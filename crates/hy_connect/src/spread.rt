@@ -4,7 +4,7 @@ ghost use Rattle.hy_driver.specs.Rows.{values_of};
 ghost use Rattle.hy_frame.specs.Row.{IsRow};
 ghost use Rattle.hy_connect.specs.declared.route.Route.TheVariants.{Whole, ByHash as Hashed};
 ghost use Rattle.hy_connect.specs.Outlets.{Exports, Grows, Lent, Sends, frames_in, frames_waiting, held_of};
-ghost use Rattle.hy_connect.specs.Many.{AreOutlets, FillNone, FrontAdds, Rips, RipsTo, Spreads, SpreadsTo};
+ghost use Rattle.hy_connect.specs.Many.{AreOutlets, FillNone, FrontAdds, MoreWait, Rips, RipsTo, Spreads, SpreadsTo};
 
 use crate::outlet::Outlet;
 use crate::route::part;
@@ -65,6 +65,7 @@ fn send_copies(
     ensures ok { OnOk result (FrontAdds frame.now.arity last outlets.old (map values_of frame.now.rows) outlets.new) }
     ensures err { OnErr result (Rips Whole frame.now.arity outlets.old (map values_of frame.now.rows) outlets.new) }
     ensures none { FillNone outlets.new }
+    ensures parcels { MoreWait 1 outlets.old outlets.new }
     ensures bank { Lent 0 0 bank.old bank.new }
     ensures exports { Exports (frames_waiting outlets.old) (frames_waiting outlets.new) bank.old bank.new }
 {
@@ -91,6 +92,7 @@ pub(crate) fn spread_whole(
     ensures ok { OnOk result (Spreads Whole frame.arity outlets.old (map values_of frame.rows) outlets.new) }
     ensures err { OnErr result (Rips Whole frame.arity outlets.old (map values_of frame.rows) outlets.new) }
     ensures none { FillNone outlets.new }
+    ensures parcels { MoreWait 1 outlets.old outlets.new }
     ensures bank { Lent 1 0 bank.old bank.new }
     ensures exports { Exports (frames_waiting outlets.old) (frames_waiting outlets.new) bank.old bank.new }
 {
@@ -124,6 +126,7 @@ fn spread_row(
     requires room { bank.old.out + length outlets.old ≤ bank.old.limit + held_of outlets.old }
     ensures ok { OnOk result (SpreadsTo k (length row.now) outlets.old (values_of row.now) outlets.new) }
     ensures err { OnErr result (RipsTo k (length row.now) outlets.old (values_of row.now) outlets.new) }
+    ensures parcels { MoreWait 1 outlets.old outlets.new }
     ensures bank { Lent (held_of outlets.old) (held_of outlets.new) bank.old bank.new }
     ensures exports { Exports (frames_waiting outlets.old) (frames_waiting outlets.new) bank.old bank.new }
 {
@@ -148,6 +151,7 @@ pub(crate) fn spread_by_hash(
     requires room { bank.old.out + length outlets.old ≤ bank.old.limit + held_of outlets.old }
     ensures ok { OnOk result (Spreads (Hashed columns.now) frame.now.arity outlets.old (map values_of frame.now.rows) outlets.new) }
     ensures err { OnErr result (Rips (Hashed columns.now) frame.now.arity outlets.old (map values_of frame.now.rows) outlets.new) }
+    ensures parcels { MoreWait (length frame.now.rows) outlets.old outlets.new }
     ensures bank { Lent (held_of outlets.old) (held_of outlets.new) bank.old bank.new }
     ensures exports { Exports (frames_waiting outlets.old) (frames_waiting outlets.new) bank.old bank.new }
 {

@@ -1,4 +1,4 @@
-use Rattle.std.proofs.Common.{◌≡◌, ◌<◌, ℕ, List, [], ◌∷◌, length, subst, ap, ◌∙◌, arith}
+use Rattle.std.proofs.Common.{◌≡◌, ◌<◌, ◌+◌, ℕ, List, [], ◌∷◌, length, subst, ap, ◌∙◌, arith}
 use Rattle.hy_frame.specs.Row.{Fields}
 use Rattle.hy_job.specs.Columns.{part_of}
 use Rattle.hy_driver.specs.Rows.{Row, values_of}
@@ -8,6 +8,7 @@ use Rattle.hy_connect.proofs.Adding.{err_given}
 use Rattle.hy_connect.proofs.Exporting.{exports_then}
 use Rattle.hy_connect.proofs.Held.{lent_then}
 use Rattle.hy_connect.proofs.Spreading.{rows_rip, rows_spread_more}
+use Rattle.hy_connect.proofs.Waiting.{waits_more, waits_then}
 use Rattle.hy_connect.proofs.spread.spread_by_hash.Goals as goal
 
 part_here : (p n m : ℕ) (columns : List ℕ) (v : Row) → p ≡ part_of n columns v → n ≡ m → p ≡ part_of m columns v
@@ -44,7 +45,15 @@ loop-i-preserved c =
       rows_spread_more (ByHash columns) arity i rows row c.args.outlets.now c.loop-i.outlets c.spread_row.new.outlets low c.row-row.ensures.row c.loop-i.invariant.0 spreads,
       lent_then _ _ _ _ _ _ c.loop-i.invariant.1 c.spread_row.ensures.bank,
       exports_then _ _ _ c.args.bank.now c.loop-i.bank c.spread_row.new.bank c.loop-i.invariant.2 c.spread_row.ensures.exports,
+      waits_then i 1 c.args.outlets.now c.loop-i.outlets c.spread_row.new.outlets (let h = c.loop-i.invariant.0 in h.count) c.loop-i.invariant.3 c.spread_row.ensures.parcels,
     )
+
+pub returns-in_err-spread_row-clause-parcels : goal.returns-in_err-spread_row-clause-parcels
+returns-in_err-spread_row-clause-parcels c =
+    let i = c.loop-i.i in
+    let end = c.rows-i-end.ensures.rows in
+    waits_more (i + 1) (length c.args.frame.now.rows) c.args.outlets.now c.spread_row.new.outlets (omega arith)
+    (waits_then i 1 c.args.outlets.now c.loop-i.outlets c.spread_row.new.outlets (let h = c.loop-i.invariant.0 in h.count) c.loop-i.invariant.3 c.spread_row.ensures.parcels)
 
 pub returns-in_err-spread_row-clause-exports : goal.returns-in_err-spread_row-clause-exports
 returns-in_err-spread_row-clause-exports c = exports_then _ _ _ c.args.bank.now c.loop-i.bank c.spread_row.new.bank c.loop-i.invariant.2 c.spread_row.ensures.exports

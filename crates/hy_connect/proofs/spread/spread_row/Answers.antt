@@ -9,6 +9,7 @@ use Rattle.hy_connect.proofs.Exporting.{exports_at}
 use Rattle.hy_connect.proofs.Fronts.{read_at}
 use Rattle.hy_connect.proofs.Held.{held_here, lent_at, room_here}
 use Rattle.hy_connect.proofs.Spreading.{rips_none, row_rips, row_spreads}
+use Rattle.hy_connect.proofs.Waiting.{none_wait, waits_set}
 use Rattle.hy_connect.proofs.spread.spread_row.Goals as goal
 
 pub returns-in_err-copy_from-clause-err : goal.returns-in_err-copy_from-clause-err
@@ -42,6 +43,12 @@ returns-clause-err c = on_err_weaker c.append.result
 
 pub returns-clause-bank : goal.returns-clause-bank
 returns-clause-bank c = lent_at c.args.outlets.now c.args.k _ c.index-outlets-k.result c.append.new.self c.args.bank.now c.append.new.bank c.requires.there refl c.append.ensures.bank
+
+pub returns-in_err-copy_from-clause-parcels : goal.returns-in_err-copy_from-clause-parcels
+returns-in_err-copy_from-clause-parcels c = none_wait 1 c.args.outlets.now
+
+pub returns-clause-parcels : goal.returns-clause-parcels
+returns-clause-parcels c = waits_set 1 c.args.outlets.now c.args.k c.index-outlets-k.result c.append.new.self c.requires.there c.append.ensures.parcels
 
 pub returns-clause-exports : goal.returns-clause-exports
 returns-clause-exports c = exports_at c.args.outlets.now c.args.k c.index-outlets-k.result c.append.new.self c.args.bank.now c.append.new.bank c.requires.there c.append.ensures.exports

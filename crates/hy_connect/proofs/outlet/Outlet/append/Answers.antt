@@ -1,7 +1,8 @@
-use Rattle.std.proofs.Common.{[], ◌∷◌, length, subst, sym}
+use Rattle.std.proofs.Common.{List, [], ◌∷◌, length, ap, subst, sym, arith}
 use Rattle.std.proofs.lemmas.Result.{on_err_weaker, on_ok_weaker}
+use Rattle.hy_mail.specs.declared.parcel.Parcel.{Parcel}
 use Rattle.hy_driver.specs.Rows.{values_of}
-use Rattle.hy_connect.specs.Outlets.{IsOutlet}
+use Rattle.hy_connect.specs.Outlets.{OutletOf, IsOutlet}
 use Rattle.hy_connect.proofs.Adding.{append_begins, append_loses, append_none, append_stops, err_given, lent_gone}
 use Rattle.hy_connect.proofs.outlet.Outlet.append.Goals as goal
 
@@ -28,3 +29,16 @@ pub returns-clause-err : goal.returns-clause-err
 returns-clause-err c = on_err_weaker c.begin.result
     (append_stops (length c.args.row.now) c.args.self.now c.extend.new.self c.send_filling.new.self c.begin.new.self (values_of c.args.row.now ∷ []) (c.extend.ensures.no c.if-extend.false) c.requires.outlet c.in_ok-send_filling.ensures.ok)
     c.begin.ensures.err
+
+pub returns-in_err-send_filling-clause-parcels : goal.returns-in_err-send_filling-clause-parcels
+returns-in_err-send_filling-clause-parcels c =
+    let h = c.send_filling.ensures.parcels in
+    let e = ap (λ (o : OutletOf). length o.waits) (c.extend.ensures.no c.if-extend.false) in
+    omega arith
+
+pub returns-clause-parcels : goal.returns-clause-parcels
+returns-clause-parcels c =
+    let h = c.send_filling.ensures.parcels in
+    let e = ap (λ (o : OutletOf). length o.waits) (c.extend.ensures.no c.if-extend.false) in
+    let w = ap (λ (ws : List Parcel). length ws) c.begin.ensures.waits in
+    omega arith
