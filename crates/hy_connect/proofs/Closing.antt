@@ -14,7 +14,7 @@ use Rattle.hy_connect.specs.declared.route.Route.TheVariants as R
 use Rattle.hy_connect.specs.Routes.{fills}
 use Rattle.hy_connect.specs.Outlets.{OutletOf, Exports, Lent, Pops, blank, closed, failed, flushed, flushed_with, frames_waiting, held_of, outlet_at, posted}
 use Rattle.hy_connect.specs.Many.{Each, FillNone, HaveRoom, HaveRoomToo, MoreWait, Rips, Spreads}
-use Rattle.hy_connect.specs.Writers.{AddsParcels, Fails, IsAsFar, IsWriter, SendsOn, Tears, TellsWritten, WriterOf, Writes, most_parcels, reserve, writer_of}
+use Rattle.hy_connect.specs.Writers.{AddsParcels, Fails, IsAsFar, IsWriter, SendsOn, Tears, TellsWritten, WriterOf, Writes, reserve, writer_of}
 use Rattle.hy_connect.proofs.Exporting.{waiting_opened}
 use Rattle.hy_connect.proofs.Held.{held_none, held_same}
 use Rattle.hy_connect.proofs.Writing.{closed_none, closed_quiet, closes, closing_room, far_same, failed_fails, failed_none, failed_quiet, failed_stays, opened_stays, opened_writes, pops_far, pops_sends, rips_tears, spread_writes}
@@ -189,12 +189,11 @@ module _ (self : WriterOf) (route : Route) (arity unit n : ℕ) (lent xs : List 
   rows_told (Ok x) r m ys rows e same wide ok err = wrote r m ys rows e same wide ok
   rows_told (Err x) r m ys rows e same wide ok err = tore r m ys rows e same wide err
 
-  pub rows_parcels : (r : Route) (count : ℕ) (ys : List OutletOf) → route ≡ r → length ys ≡ length lent → MoreWait (most_parcels r count) lent ys → AddsParcels (most_parcels self.route count) self (writer_of route arity unit (written n ys xs) s)
-  rows_parcels r count ys same len h =
-      subst (λ (q : Route). AddsParcels (most_parcels q count) self (writer_of route arity unit (written n ys xs) s)) (sym same ∙ ap (λ (w : WriterOf). w.route) p.view)
-      (subst (λ (l : List OutletOf). AddsParcels (most_parcels r count) self (writer_of route arity unit l s)) (sym (written_is n ys xs (len ∙ ap (λ (l : List OutletOf). length l) p.value) p.len))
-      (subst (λ (w : WriterOf). AddsParcels (most_parcels r count) w (writer_of route arity unit ys s)) p.view
-      (subst (λ (l : List OutletOf). MoreWait (most_parcels r count) l ys) p.value h)))
+  pub rows_parcels : (ys : List OutletOf) → length ys ≡ length lent → MoreWait 1 lent ys → AddsParcels 1 self (writer_of route arity unit (written n ys xs) s)
+  rows_parcels ys len h =
+      subst (λ (l : List OutletOf). AddsParcels 1 self (writer_of route arity unit l s)) (sym (written_is n ys xs (len ∙ ap (λ (l : List OutletOf). length l) p.value) p.len))
+      (subst (λ (w : WriterOf). AddsParcels 1 w (writer_of route arity unit ys s)) p.view
+      (subst (λ (l : List OutletOf). MoreWait 1 l ys) p.value h))
 
 -- ---- a parcel is put
 

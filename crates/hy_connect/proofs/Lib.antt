@@ -16,3 +16,4 @@ pub mod Merger
 pub mod MergeCaseProofs
 pub mod Waiting
 pub mod Exporting
+pub mod Filling

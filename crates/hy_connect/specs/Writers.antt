@@ -9,7 +9,6 @@ use Rattle.hy_mail.specs.Words.{HasArity, Leads, may}
 use Rattle.hy_job.specs.declared.job.Wire.{Wire}
 use Rattle.hy_driver.specs.Rows.{Row}
 use Rattle.hy_connect.specs.declared.route.Route.{Route}
-use Rattle.hy_connect.specs.declared.route.Route.TheVariants as R
 use Rattle.hy_connect.specs.declared.writer.Offer.{Offer}
 use Rattle.hy_connect.specs.declared.writer.Offer.TheVariants as O
 use Rattle.hy_connect.specs.Routes.{RoutesBy, fills, route_of, sent_by}
@@ -131,11 +130,6 @@ TellsWritten old rows new (Err e) = Tears old rows new
 -- at most so many parcels more wait for each receiver
 abbrev pub AddsParcels : ℕ → WriterOf → WriterOf → Type 0
 AddsParcels n old new = (k : ℕ) → k < receivers old → length (outlet new k).waits ≤ length (outlet old k).waits + n
-
--- how many parcels so many rows may become for one receiver: one frame where the frame goes on as it is, and else no more than there are rows
-abbrev pub most_parcels : Route → ℕ → ℕ
-most_parcels R.Whole rows = 1
-most_parcels (R.ByHash columns) rows = rows
 
 -- ---- offers
 

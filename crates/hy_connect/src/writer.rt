@@ -3,7 +3,7 @@ ghost use Rattle.std.specs.Prelude.{◌≡◌, ◌≢◌, ◌⊎◌, ◌+◌, �
 ghost use Rattle.hy_driver.specs.Rows.{values_of};
 ghost use Rattle.hy_connect.specs.Outlets.{Exports, Pops, closed, failed, frames_waiting, held_of, posted};
 ghost use Rattle.hy_connect.specs.Routes.{HasColumns};
-ghost use Rattle.hy_connect.specs.Writers.{AddsParcels, Fails, IsAsFar, IsIdle, IsNew, MayPut, TellsOffer, TellsWritten, Writes, most_parcels, outlet, receivers};
+ghost use Rattle.hy_connect.specs.Writers.{AddsParcels, Fails, IsAsFar, IsIdle, IsNew, MayPut, TellsOffer, TellsWritten, Writes, outlet, receivers};
 ghost use Rattle.hy_mail.specs.Events.{Full, Put};
 ghost use Rattle.hy_mail.specs.declared.parcel.Parcel.{Parcel};
 ghost use Rattle.hy_connect.specs.Many.{Each};
@@ -172,7 +172,7 @@ impl FrameWriter for WireWriter {
         requires out { held_of self.old.outlets + 1 ≤ bank.old.out }
         ensures opened { self.new.state ≡ WriterState.Opened }
         ensures out { bank.new.out + (held_of self.old.outlets + 1) ≡ bank.old.out + held_of self.new.outlets }
-        ensures parcels { AddsParcels (most_parcels self.old.route (length frame.rows)) self.old self.new }
+        ensures parcels { AddsParcels 1 self.old self.new }
         ensures bank { (bank.new.unit ≡ bank.old.unit) × (bank.new.limit ≡ bank.old.limit) }
         ensures made { (self.new.arity ≡ self.old.arity) × (self.new.unit ≡ self.old.unit) × (length self.new.outlets ≡ length self.old.outlets) }
         ensures told { TellsWritten self.old (map values_of frame.rows) self.new result }

@@ -28,13 +28,13 @@ pub returns-in-Whole-clause-parcels : goal.returns-in-Whole-clause-parcels
 returns-in-Whole-clause-parcels c =
     let i = c.self.inside in
     let p : Parts c.args.self.now i.route i.arity i.unit i.outlets.len c.deref_mut.result.now i.outlets.items i.state = record { view = c.self.view_is; is = c.self.invariant; value = c.deref_mut.ensures.value; len = i.outlets.ok.0 } in
-    rows_parcels c.args.self.now i.route i.arity i.unit i.outlets.len c.deref_mut.result.now i.outlets.items i.state p Whole (length c.args.frame.rows) c.spread_whole.new.outlets c.in-Whole.is c.spread_whole.auto.outlets c.spread_whole.ensures.parcels
+    rows_parcels c.args.self.now i.route i.arity i.unit i.outlets.len c.deref_mut.result.now i.outlets.items i.state p c.spread_whole.new.outlets c.spread_whole.auto.outlets c.spread_whole.ensures.parcels
 
 pub returns-in-ByHash-clause-parcels : goal.returns-in-ByHash-clause-parcels
 returns-in-ByHash-clause-parcels c =
     let i = c.self.inside in
     let p : Parts c.args.self.now i.route i.arity i.unit i.outlets.len c.deref_mut-in-ByHash.result.now i.outlets.items i.state = record { view = c.self.view_is; is = c.self.invariant; value = c.deref_mut-in-ByHash.ensures.value; len = i.outlets.ok.0 } in
-    rows_parcels c.args.self.now i.route i.arity i.unit i.outlets.len c.deref_mut-in-ByHash.result.now i.outlets.items i.state p (ByHash c.as_slice-columns.result.now) (length c.args.frame.rows) c.spread_by_hash-spread.new.outlets (c.in-ByHash.is ∙ ap ByHash (sym c.as_slice-columns.ensures)) c.spread_by_hash-spread.auto.outlets c.spread_by_hash-spread.ensures.parcels
+    rows_parcels c.args.self.now i.route i.arity i.unit i.outlets.len c.deref_mut-in-ByHash.result.now i.outlets.items i.state p c.spread_by_hash-spread.new.outlets c.spread_by_hash-spread.auto.outlets c.spread_by_hash-spread.ensures.parcels
 
 pub returns-in-Whole-clause-exports : goal.returns-in-Whole-clause-exports
 returns-in-Whole-clause-exports c =
