@@ -91,6 +91,8 @@ impl Driver for Aggregate {
 
     ghost stored = { λ _. false };
 
+    ghost hands = { λ _. false };
+
     fn feed(&mut self, _bank: &mut Bank, _input: u32, row: RowRef<'_>) -> Result<(), OpFault> {
         self.phase = Phase::Working;
         if !self.last {

@@ -22,6 +22,9 @@ pub trait Driver {
     // Whether it has a store, which no call takes from it or gives it.
     ghost stored: { Self → Bool };
 
+    // Whether it may hand rows on, once it has ended, which no call changes either.
+    ghost hands: { Self → Bool };
+
     /// Takes a row of an input.
     fn feed(&mut self, bank: &mut Bank, input: u32, row: RowRef<'_>) -> Result<(), OpFault>
         requires hungry { (seen self.old).phase ≡ Phase.Hungry }
@@ -37,7 +40,8 @@ pub trait Driver {
         ensures bank { Lent (seen self.old) (seen self.new) bank.old bank.new }
         ensures frames { (seen self.new).frames ≤ (seen self.old).fixed.memory + 1 }
         ensures fixed { (seen self.new).fixed ≡ (seen self.old).fixed }
-        ensures kept { stored self.new ≡ stored self.old };
+        ensures kept { stored self.new ≡ stored self.old }
+        ensures same { hands self.new ≡ hands self.old };
 
     /// Ends an input: no row of it comes any more.
     fn end(&mut self, bank: &mut Bank, input: u32) -> Result<(), OpFault>
@@ -53,7 +57,8 @@ pub trait Driver {
         ensures bank { Lent (seen self.old) (seen self.new) bank.old bank.new }
         ensures frames { (seen self.new).frames ≤ (seen self.old).fixed.memory + 1 }
         ensures fixed { (seen self.new).fixed ≡ (seen self.old).fixed }
-        ensures kept { stored self.new ≡ stored self.old };
+        ensures kept { stored self.new ≡ stored self.old }
+        ensures same { hands self.new ≡ hands self.old };
 
     /// One turn, which gives at most one row.
     fn next(&mut self, bank: &mut Bank, out: &mut RowBuf) -> Result<Next, OpFault>
@@ -66,7 +71,8 @@ pub trait Driver {
         ensures bank { Lent (seen self.old) (seen self.new) bank.old bank.new }
         ensures frames { (seen self.new).frames ≤ (seen self.old).fixed.memory + 1 }
         ensures fixed { (seen self.new).fixed ≡ (seen self.old).fixed }
-        ensures kept { stored self.new ≡ stored self.old };
+        ensures kept { stored self.new ≡ stored self.old }
+        ensures same { hands self.new ≡ hands self.old };
 
     /// Gives back all frames and tries to remove all runs. It takes no memory.
     fn give_up(&mut self, bank: &mut Bank)
@@ -75,5 +81,6 @@ pub trait Driver {
         ensures faults { (seen self.old).store.faults ≤ (seen self.new).store.faults }
         ensures bank { Lent (seen self.old) (seen self.new) bank.old bank.new }
         ensures fixed { (seen self.new).fixed ≡ (seen self.old).fixed }
-        ensures kept { stored self.new ≡ stored self.old };
+        ensures kept { stored self.new ≡ stored self.old }
+        ensures same { hands self.new ≡ hands self.old };
 }

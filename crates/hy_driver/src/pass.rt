@@ -58,6 +58,8 @@ impl Driver for PassRows {
 
     ghost stored = { λ _. false };
 
+    ghost hands = { λ _. false };
+
     fn feed(&mut self, _bank: &mut Bank, _input: u32, row: RowRef<'_>) -> Result<(), OpFault> {
         self.row.copy_from(&row)?;
         self.holds = true;

@@ -111,6 +111,8 @@ impl<'a, R: RunStore> Driver for GroupBuild<'a, R> {
 
     ghost stored = { λ _. true };
 
+    ghost hands = { λ _. true };
+
     fn feed(&mut self, _bank: &mut Bank, _input: u32, row: RowRef<'_>) -> Result<(), OpFault> {
         match add_row(self.alloc, self.arg, &mut self.groups, &row) {
             Ok(()) => {

@@ -70,6 +70,8 @@ impl<R: RunStore> Driver for JoinBuild<R> {
 
     ghost stored = { λ _. true };
 
+    ghost hands = { λ _. true };
+
     fn feed(&mut self, bank: &mut Bank, input: u32, row: RowRef<'_>) -> Result<(), OpFault> {
         self.kept.feed(bank, input, row)
     }

@@ -88,13 +88,15 @@ impl<R: RunStore> JoinProbe<R> {
 }
 
 impl<R: RunStore> Driver for JoinProbe<R> {
-    ghost use Rattle.std.specs.Prelude.{Some, true};
+    ghost use Rattle.std.specs.Prelude.{Some, true, false};
     ghost use Rattle.hy_driver.specs.Handing.{store_of};
     ghost use Rattle.hy_join.specs.Probe.{probe_seen};
 
     ghost seen = { λ d. probe_seen d.side d.left d.ended d.phase (store_of R.runs R.faults (Some d.store)) };
 
     ghost stored = { λ _. true };
+
+    ghost hands = { λ _. false };
 
     fn feed(&mut self, _bank: &mut Bank, _input: u32, row: RowRef<'_>) -> Result<(), OpFault> {
         self.left.holds = false;

@@ -74,6 +74,8 @@ impl Driver for SortEmit {
 
     ghost stored = { λ _. false };
 
+    ghost hands = { λ _. false };
+
     fn feed(&mut self, _bank: &mut Bank, _input: u32, _row: RowRef<'_>) -> Result<(), OpFault> {
         self.phase = Phase::Working;
         Ok(())

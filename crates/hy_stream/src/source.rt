@@ -94,6 +94,8 @@ impl<'a> Driver for Scan<'a> {
 
     ghost stored = { λ _. false };
 
+    ghost hands = { λ _. false };
+
     fn feed(&mut self, _bank: &mut Bank, _input: u32, _row: RowRef<'_>) -> Result<(), OpFault> {
         self.phase = Phase::Working;
         Ok(())
@@ -169,6 +171,8 @@ impl Driver for One {
     ghost seen = { one_seen };
 
     ghost stored = { λ _. false };
+
+    ghost hands = { λ _. false };
 
     fn feed(&mut self, _bank: &mut Bank, _input: u32, _row: RowRef<'_>) -> Result<(), OpFault> {
         self.phase = Phase::Working;

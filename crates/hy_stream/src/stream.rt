@@ -117,6 +117,8 @@ impl Driver for Stream {
 
     ghost stored = { λ _. false };
 
+    ghost hands = { λ _. false };
+
     fn feed(&mut self, _bank: &mut Bank, input: u32, row: RowRef<'_>) -> Result<(), OpFault> {
         self.holds = false;
         match work_on(

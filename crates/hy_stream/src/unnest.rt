@@ -94,6 +94,8 @@ impl Driver for Unnest {
 
     ghost stored = { λ _. false };
 
+    ghost hands = { λ _. false };
+
     fn feed(&mut self, _bank: &mut Bank, _input: u32, row: RowRef<'_>) -> Result<(), OpFault> {
         let items = items_at(self.alloc, &self.generator, &row)?;
         self.row.copy_from(&row)?;

@@ -104,6 +104,8 @@ impl Driver for PreGroup {
 
     ghost stored = { λ _. false };
 
+    ghost hands = { λ _. false };
+
     #[tactic(auto, using(crate::proofs::StretchLaws::call_laws))]
     fn feed(&mut self, _bank: &mut Bank, _input: u32, row: RowRef<'_>) -> Result<(), OpFault> {
         self.holds = false;

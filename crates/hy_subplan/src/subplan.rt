@@ -100,6 +100,8 @@ impl Driver for Subplan {
 
     ghost stored = { λ _. false };
 
+    ghost hands = { λ _. false };
+
     #[tactic(auto, using(crate::proofs::SubplanLaws::feed_laws))]
     fn feed(&mut self, _bank: &mut Bank, _input: u32, row: RowRef<'_>) -> Result<(), OpFault> {
         self.holds = false;
