@@ -5,7 +5,7 @@ use Rattle.hy_frame.specs.declared.writer.WriterState.TheVariants.{Opened}
 use Rattle.hy_job.specs.declared.job.Wire.TheVariants as W
 use Rattle.hy_job.specs.Columns.{key_hash}
 use Rattle.hy_driver.specs.Rows.{Row, values_of}
-use Rattle.hy_connect.specs.Cases.{BothHaveToClose, EachHasABox, EmptyIsNotSent, FilledIsOwed, HashSplits, NothingBehindFail, TasksFollow, TwoShareABox, WaitingComesFirst, WordsAreBehind, null_row, to_two, true_frame, true_row}
+use Rattle.hy_connect.specs.Cases.{BothHaveToClose, CountsEnd, EachHasABox, EmptyIsNotSent, ExportsWhatWaits, FilledIsOwed, FramesAreCounted, HashSplits, NothingBehindFail, TasksFollow, TwoShareABox, WaitingComesFirst, WordsAreBehind, null_row, to_two, true_frame, true_row}
 use Rattle.hy_connect.specs.Takers.{HaveClosed}
 use Rattle.hy_connect.specs.Writers.{IsAsFar}
 use Rattle.hy_mail.specs.declared.parcel.Parcel.TheVariants as P
@@ -69,6 +69,24 @@ one_row row e = cc
 
 pub empty_is_not_sent : EmptyIsNotSent
 empty_is_not_sent = ((λ h. h.some refl), record { wide = refl; some = one_row ((2 ∷ []) ∷ []) }, (λ h. let e = h.wide in absurd (omega arith)))
+
+pub frames_are_counted : FramesAreCounted
+frames_are_counted = (refl, refl, (λ e. absurd (omega arith)), (λ e. absurd (omega arith)))
+
+pub exports_what_waits : ExportsWhatWaits
+exports_what_waits = (
+  record { no_less = omega arith; exported = λ low. refl; imported = refl },
+  (λ h. let e = h.exported (omega arith) in absurd (omega arith)),
+  (λ h. let e = h.exported (omega arith) in absurd (omega arith)),
+  (λ h. let e = h.imported in absurd (omega arith)),
+  (λ h. let e = h.no_less in absurd (omega arith)),
+)
+
+pub counts_end : CountsEnd
+counts_end = (
+  record { no_less = omega arith; exported = λ low. absurd (omega arith); imported = refl },
+  (λ h. let e = h.exported (omega arith) in absurd (omega arith)),
+)
 
 both : HaveClosed (true ∷ true ∷ [])
 both zero low = refl

@@ -1,6 +1,7 @@
 -- Worked cases of what contracts say of writers and takers.
-use Rattle.std.specs.Prelude.{◌≡◌, true, false, List, [], ◌∷◌, Some, None}
+use Rattle.std.specs.Prelude.{◌≡◌, ◌-◌, ◌^◌, ℕ, true, false, List, [], ◌∷◌, Some, None}
 use Rattle.al_value.specs.declared.value.Value.TheVariants as V
+use Rattle.hy_frame.specs.Bank.{BankOf}
 use Rattle.hy_frame.specs.Frame.{FrameOf}
 use Rattle.hy_frame.specs.Row.{Fields}
 use Rattle.hy_frame.specs.declared.writer.WriterState.{WriterState}
@@ -9,7 +10,7 @@ use Rattle.hy_mail.specs.declared.parcel.Parcel.{Parcel}
 use Rattle.hy_mail.specs.declared.parcel.Parcel.TheVariants as P
 use Rattle.hy_driver.specs.Rows.{Row}
 use Rattle.hy_connect.specs.declared.route.Route.TheVariants as R
-use Rattle.hy_connect.specs.Outlets.{IsSendable}
+use Rattle.hy_connect.specs.Outlets.{Exports, IsSendable, OutletOf, frames_waiting}
 use Rattle.hy_connect.specs.Routes.{sent_by}
 use Rattle.hy_connect.specs.Writers.{IsAsFar, WriterOf, may_offer, writer_of}
 use Rattle.hy_job.specs.declared.job.Wire.TheVariants as W
@@ -63,6 +64,32 @@ WordsAreBehind = (IsAsFar (λ m. Opened) (to_two Opened (P.Open ∷ [])) → ⊥
 -- a frame without rows is not put
 abbrev pub EmptyIsNotSent : Type 0
 EmptyIsNotSent = (IsSendable 1 (P.Frame (frame_of [])) → ⊥) × IsSendable 1 (P.Frame true_frame) × (IsSendable 2 (P.Frame true_frame) → ⊥)
+
+-- two receivers of a hash wire: a frame is filled for the first, and frames and marks wait for both
+abbrev pub two_waiting : List OutletOf
+two_waiting =
+    record { mailbox = 3; filling = Some true_frame; waits = P.Open ∷ P.Frame true_frame ∷ []; spare = 2 }
+    ∷ record { mailbox = 4; filling = None; waits = P.Frame true_frame ∷ P.Fail ∷ P.Frame true_frame ∷ P.Close ∷ []; spare = 2 } ∷ []
+
+-- the frames that wait for both receivers are counted, and neither marks nor a frame that is filled
+abbrev pub FramesAreCounted : Type 0
+FramesAreCounted = (frames_waiting two_waiting ≡ 3) × (frames_waiting [] ≡ 0) × (frames_waiting two_waiting ≡ 1 → ⊥) × (frames_waiting two_waiting ≡ 4 → ⊥)
+
+-- a bank of which so many frames were exported and imported
+abbrev pub bank_after : ℕ → ℕ → BankOf
+bank_after exported imported = record { unit = 256; limit = 20; out = 2; taken = 9; given = 1; exported = exported; imported = imported }
+
+-- where two frames more wait, two were exported, neither fewer nor more, and none was imported; no frame that waited is
+-- taken back
+abbrev pub ExportsWhatWaits : Type 0
+ExportsWhatWaits = Exports 1 3 (bank_after 5 4) (bank_after 7 4) × (Exports 1 3 (bank_after 5 4) (bank_after 6 4) → ⊥)
+    × (Exports 1 3 (bank_after 5 4) (bank_after 8 4) → ⊥) × (Exports 1 3 (bank_after 5 4) (bank_after 7 5) → ⊥)
+    × (Exports 3 1 (bank_after 5 4) (bank_after 3 4) → ⊥)
+
+-- a count at its end tells no more, and one below it does
+abbrev pub CountsEnd : Type 0
+CountsEnd = Exports 1 3 (bank_after (2 ^ 64 - 2) 4) (bank_after (2 ^ 64 - 1) 4)
+    × (Exports 1 3 (bank_after (2 ^ 64 - 3) 4) (bank_after (2 ^ 64 - 2) 4) → ⊥)
 
 -- of two senders both have to close
 abbrev pub BothHaveToClose : Type 0
