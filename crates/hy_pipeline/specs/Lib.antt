@@ -1,0 +1,3 @@
+pub mod Pipeline
+pub mod Laws
+pub mod Cases

@@ -1,0 +1,42 @@
+//! Laws of every task's parts. The function does nothing: its clauses are what it is for.
+
+ghost use Rattle.hy_pipeline.specs.Cases.{FramesAreRows, KeptComesFirst, LeftComesLast, NewWaysAreOfEdges, OfferedToSecond, PutForOne, RowsAreOwed, SwappedAreApart, WaitsForSecond};
+ghost use Rattle.hy_pipeline.specs.Laws.{ComeIsStep, EndedIsStep, EndedRests, FedIsStep, FinishIsStep, LivingAreAlive, NewAreNew, OpenIsStep, PutIsStep, TurnIsStep, WaitingIsFront};
+
+/// What comes into a task, its operator and what goes out.
+pub trait HasPipeline {
+    ghost use Rattle.hy_pipeline.specs.Pipeline.{PipelineOf};
+
+    ghost pipeline: { Self → PipelineOf };
+}
+
+/// Each call of an input, of the operator or of the output is a step of the task's parts, with what it
+/// fed, gave, let go on, took or put; a new task's parts begin as its activity asks, living ones have
+/// something to do, and ended ones nothing but what waits. It does nothing: its clauses speak of any parts.
+pub fn pipeline_laws<T: HasPipeline>()
+    ensures fed { (old new : T) → FedIsStep (T.pipeline old) (T.pipeline new) }
+    ensures ended { (old new : T) → EndedIsStep (T.pipeline old) (T.pipeline new) }
+    ensures turned { (old new : T) → TurnIsStep (T.pipeline old) (T.pipeline new) }
+    ensures opened { (old new : T) → OpenIsStep (T.pipeline old) (T.pipeline new) }
+    ensures finished { (old new : T) → FinishIsStep (T.pipeline old) (T.pipeline new) }
+    ensures taken { (old new : T) → ComeIsStep (T.pipeline old) (T.pipeline new) }
+    ensures put { (old new : T) → PutIsStep (T.pipeline old) (T.pipeline new) }
+    ensures new { (t : T) → NewAreNew (T.pipeline t) }
+    ensures living { (t : T) → LivingAreAlive (T.pipeline t) }
+    ensures ended_rests { (t : T) → EndedRests (T.pipeline t) }
+    ensures front { (t : T) → WaitingIsFront (T.pipeline t) }
+{}
+
+/// What parcels say, what may be put for whom, and how what goes out begins and ends. It does nothing:
+/// its clauses are worked cases.
+pub fn pipeline_cases()
+    ensures frames { FramesAreRows }
+    ensures put_for { PutForOne }
+    ensures apart { SwappedAreApart }
+    ensures waits { WaitsForSecond }
+    ensures offered { OfferedToSecond }
+    ensures kept { KeptComesFirst }
+    ensures new { NewWaysAreOfEdges }
+    ensures left { LeftComesLast }
+    ensures owed { RowsAreOwed }
+{}
