@@ -7,7 +7,7 @@ use Rattle.hy_driver.specs.Rows as X
 use Rattle.hy_connect.specs.Outlets.{outlet_at, owed_rows}
 use Rattle.hy_output.specs.Cases.{frame, yes}
 use Rattle.hy_output.specs.Ways.{offers}
-use Rattle.hy_pipeline.specs.Pipeline.{taken_of}
+use Rattle.hy_pipeline.specs.Pipeline.{take_of}
 use Rattle.hy_pipeline.specs.Cases.{FramesAreRows, KeptComesFirst, LeftComesLast, NewWaysAreOfEdges, OfferedToSecond, PutForOne, RowsAreOwed, SwappedAreApart, WaitsForSecond, first_waits, no_row, outlet_with, swapped, yes_row}
 
 abbrev first_input : List Take → ℕ
@@ -17,7 +17,7 @@ first_input (t ∷ ts) = t.input
 no_one : ◌≡◌ {A = ℕ} zero (suc zero) → ⊥
 no_one e = cc
 
-turned_take : taken_of 0 1 P.Close ≡ record { input = 1; sender = 0; signal = Close } ∷ [] → ⊥
+turned_take : take_of 0 1 P.Close ≡ record { input = 1; sender = 0; signal = Close } ∷ [] → ⊥
 turned_take e = no_one (ap first_input e)
 
 pub frames_are_rows : FramesAreRows

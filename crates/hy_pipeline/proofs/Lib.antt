@@ -1,3 +1,4 @@
 pub mod StepLaws
 pub mod EndLaws
 pub mod CaseLaws
+pub mod TaskLaws

@@ -29,7 +29,7 @@ use Rattle.hy_output.specs.Outputs.{packed}
 use Rattle.hy_input.specs.declared.taker.Taker.{Taker}
 use Rattle.hy_input.specs.declared.taker.Taker.TheVariants as T
 use Rattle.hy_input.specs.Inputs.{InputOf, brings, brings_by, given, hand, only_at}
-use Rattle.hy_pipeline.specs.Pipeline.{AreApart, OffersTo, PipelineOf, keeps_on, parts_of, put_for, signal_of, taken_of, waits_in}
+use Rattle.hy_pipeline.specs.Pipeline.{AreApart, OffersTo, PipelineOf, keeps_on, parts_of, put_for, signal_of, take_of, waits_in}
 use Rattle.hy_pipeline.specs.Laws.{ComeIsStep, EndedIsStep, FedIsStep, FinishIsStep, OpenIsStep, PutIsStep, TakesParcel, TurnIsStep, WaitingIsFront}
 
 -- ---- nothing happens
@@ -37,7 +37,7 @@ use Rattle.hy_pipeline.specs.Laws.{ComeIsStep, EndedIsStep, FedIsStep, FinishIsS
 same : {F A : Type 0} → (rest : List F → List A → Type 0) → Continues rest [] [] rest
 same rest = record { back = λ took put r. r }
 
-differ : (a b : ℕ) → nat_eq a b ≡ false → b ≢ a
+pub differ : (a b : ℕ) → nat_eq a b ≡ false → b ≢ a
 differ a b f e = no_bool (sym (nat_is a b (sym e)) ∙ f)
 
 input_stays : (i : ℕ) (x y : InputOf) → y ≡ x → Continues (brings i x) [] [] (brings i y)
@@ -64,18 +64,18 @@ taken_each : (k p : ℕ) (rows : List Fields) → map {B = Taken} (λ row. recor
 taken_each k p [] = refl
 taken_each k p (row ∷ rows) = ap (λ xs. record { input = k; sender = p; row = values_of row } ∷ xs) (taken_each k p rows)
 
-taken_frame : (k p : ℕ) (f : FrameOf) → taken_rows (taken_of k p (P.Frame f)) ≡ rows_taken k p f
+taken_frame : (k p : ℕ) (f : FrameOf) → taken_rows (take_of k p (P.Frame f)) ≡ rows_taken k p f
 taken_frame k p f = append-nil (map {B = Taken} (λ row. record { input = k; sender = p; row = row }) (map values_of f.rows)) ∙ taken_each k p f.rows
 
 -- at the input itself
-taken_here : (k p : ℕ) (parcel : Parcel) (old new : PipelineOf) → TakesParcel k p parcel old new → Continues (brings k (old.input k)) (taken_rows (taken_of k p parcel)) [] (brings k (new.input k))
+taken_here : (k p : ℕ) (parcel : Parcel) (old new : PipelineOf) → TakesParcel k p parcel old new → Continues (brings k (old.input k)) (taken_rows (take_of k p parcel)) [] (brings k (new.input k))
 taken_here k p P.Open old new h = h.brings k
 taken_here k p (P.Frame f) old new h = subst (λ took. Continues (brings k (old.input k)) took [] (brings k (new.input k))) (sym (taken_frame k p f)) (h.brings k)
 taken_here k p P.Fail old new h = h.brings k
 taken_here k p P.Close old new h = h.brings k
 
 -- and at another one
-taken_there : (k p i : ℕ) (parcel : Parcel) (x y : InputOf) → nat_eq k i ≡ false → y ≡ x → Continues (brings i x) (taken_rows (taken_of k p parcel)) [] (brings i y)
+taken_there : (k p i : ℕ) (parcel : Parcel) (x y : InputOf) → nat_eq k i ≡ false → y ≡ x → Continues (brings i x) (taken_rows (take_of k p parcel)) [] (brings i y)
 taken_there k p i P.Open x y f e = input_stays i x y e
 taken_there k p i (P.Frame frame) x y f e = subst (λ took. Continues (brings i x) took [] (brings i y)) (sym (taken_frame k p frame)) (other_input x y i k p frame f e)
 taken_there k p i P.Fail x y f e = input_stays i x y e
@@ -83,7 +83,7 @@ taken_there k p i P.Close x y f e = input_stays i x y e
 
 -- ---- what goes out
 
-places_stay : (old new : Way) → Stays old new → places new ≡ places old
+pub places_stay : (old new : Way) → Stays old new → places new ≡ places old
 places_stay (W.Wire w) (W.Wire w') h = h.count
 places_stay (W.Kept k) (W.Kept k') h = refl
 places_stay (W.Wire w) (W.Kept k') h = absurd h
@@ -182,7 +182,7 @@ module _ (old new : PipelineOf) where
   pub come_is_step : ComeIsStep old new
   come_is_step at job a k p parcel h = record {
     brings = λ i lt. by_cases (nat_eq k i)
-        (λ t. subst (λ j. Continues (brings j (old.input j)) (taken_rows (taken_of k p parcel)) [] (brings j (new.input j))) (is_nat k i t) (taken_here k p parcel old new h.takes))
+        (λ t. subst (λ j. Continues (brings j (old.input j)) (taken_rows (take_of k p parcel)) [] (brings j (new.input j))) (is_nat k i t) (taken_here k p parcel old new h.takes))
         (λ f. taken_there k p i parcel (old.input i) (new.input i) f (h.others i (differ k i f)));
     works = h.works;
     packed = ap (λ o. packed o ++ []) (sym h.output) ∙ append-nil (packed new.output);

@@ -14,7 +14,7 @@ use Rattle.hy_connect.specs.Outlets.{OutletOf}
 use Rattle.hy_output.specs.declared.way.Way.{Way}
 use Rattle.hy_output.specs.declared.way.Way.TheVariants as W
 use Rattle.hy_output.specs.Cases.{frame, keeping, no, yes}
-use Rattle.hy_pipeline.specs.Pipeline.{AreApart, OffersTo, keeps_on, put_for, signal_of, taken_of, waits_for}
+use Rattle.hy_pipeline.specs.Pipeline.{AreApart, OffersTo, keeps_on, put_for, signal_of, take_of, waits_for}
 use Rattle.hy_pipeline.specs.Laws.{IsNewWay, Leaves, OwesNothing, TakesMore}
 
 abbrev pub yes_row : Row
@@ -29,8 +29,8 @@ no_row = V.Bool false ∷ []
 abbrev pub FramesAreRows : Type 0
 FramesAreRows = (signal_of (P.Frame (frame (yes ∷ no ∷ []))) ≡ Rows (yes_row ∷ no_row ∷ []))
     × (signal_of (P.Frame (frame (yes ∷ no ∷ []))) ≡ Rows (no_row ∷ yes_row ∷ []) → ⊥)
-    × (taken_of 0 1 P.Close ≡ record { input = 0; sender = 1; signal = Close } ∷ [])
-    × (taken_of 0 1 P.Close ≡ record { input = 1; sender = 0; signal = Close } ∷ [] → ⊥)
+    × (take_of 0 1 P.Close ≡ record { input = 0; sender = 1; signal = Close } ∷ [])
+    × (take_of 0 1 P.Close ≡ record { input = 1; sender = 0; signal = Close } ∷ [] → ⊥)
 
 -- what is put is put for its receiver alone
 abbrev pub PutForOne : Type 0

@@ -30,7 +30,7 @@ use Rattle.hy_output.specs.Outputs.{Flushes, Packs, packed}
 use Rattle.hy_input.specs.Inputs.{Closes, Gets, Gives, IsOver, Rests, brings, given}
 use Rattle.hy_course.specs.Task.{MayComeTo}
 use Rattle.hy_course.specs.Parts.{AreAlive, AreNewParts, PartsStep, RestOf}
-use Rattle.hy_pipeline.specs.Pipeline.{AreApart, OffersTo, PipelineOf, nothing, parts_of, put_for, taken_of, waits_for}
+use Rattle.hy_pipeline.specs.Pipeline.{AreApart, OffersTo, PipelineOf, nothing, parts_of, put_for, take_of, waits_for}
 
 -- no other input changed
 abbrev pub OthersStay : ℕ → PipelineOf → PipelineOf → Type 0
@@ -104,7 +104,7 @@ pub record Comes (k p : ℕ) (parcel : Parcel) (old new : PipelineOf) : Type 0 w
 
 abbrev pub ComeIsStep : PipelineOf → PipelineOf → Type 0
 ComeIsStep old new = (at : ℕ → ℕ) (job : Job) (a : Activity) (k p : ℕ) (parcel : Parcel) → Comes k p parcel old new
-    → PartsStep job a (parts_of at old) (taken_of k p parcel) [] [] [] nothing (parts_of at new)
+    → PartsStep job a (parts_of at old) (take_of k p parcel) [] [] [] nothing (parts_of at new)
 
 -- the first parcel that waited in a place was put
 pub record GoesOut (k : ℕ) (parcel : Parcel) (old new : PipelineOf) : Type 0 where

@@ -1,3 +1,4 @@
 pub mod Pipeline
 pub mod Laws
 pub mod Cases
+pub mod Tasks

@@ -30,8 +30,8 @@ signal_of P.Fail = Fail
 signal_of P.Close = Close
 
 -- it was taken at an input, of the task of a partition
-abbrev pub taken_of : ℕ → ℕ → Parcel → List Take
-taken_of k p parcel = record { input = k; sender = p; signal = signal_of parcel } ∷ []
+abbrev pub take_of : ℕ → ℕ → Parcel → List Take
+take_of k p parcel = record { input = k; sender = p; signal = signal_of parcel } ∷ []
 
 -- it was put for the task of a partition, and nothing was for others
 abbrev pub put_for : ℕ → Parcel → ℕ → List (Signal Row)

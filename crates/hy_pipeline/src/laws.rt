@@ -2,6 +2,9 @@
 
 ghost use Rattle.hy_pipeline.specs.Cases.{FramesAreRows, KeptComesFirst, LeftComesLast, NewWaysAreOfEdges, OfferedToSecond, PutForOne, RowsAreOwed, SwappedAreApart, WaitsForSecond};
 ghost use Rattle.hy_pipeline.specs.Laws.{ComeIsStep, EndedIsStep, EndedRests, FedIsStep, FinishIsStep, LivingAreAlive, NewAreNew, OpenIsStep, PutIsStep, TurnIsStep, WaitingIsFront};
+ghost use Rattle.hy_pipeline.specs.Tasks.{FailMoves, FailedTakeMoves, FaultMoves, LookMoves, PutMoves, RaiseMoves, SightMoves, TakeMoves, WorkMoves};
+
+use hy_course::HasParts;
 
 /// What comes into a task, its operator and what goes out.
 pub trait HasPipeline {
@@ -25,6 +28,28 @@ pub fn pipeline_laws<T: HasPipeline>()
     ensures living { (t : T) → LivingAreAlive (T.pipeline t) }
     ensures ended_rests { (t : T) → EndedRests (T.pipeline t) }
     ensures front { (t : T) → WaitingIsFront (T.pipeline t) }
+{}
+
+/// A task, by its parts.
+pub trait HasTask {
+    ghost use Rattle.hy_pipeline.specs.Tasks.{TaskSeen};
+
+    ghost task: { Self → TaskSeen };
+}
+
+/// What a task's parts did is a step of the task, as its record sees it: local work, a parcel that came
+/// or went out, a look, a raise, and a failure by a fault, by a Fail or by a raised word. It does
+/// nothing: its clauses speak of any tasks.
+pub fn task_laws<T: HasTask, M: HasParts>()
+    ensures works { (old new : T) → WorkMoves (T.task old) (T.task new) }
+    ensures faults { (old new : T) (last : M) → FaultMoves (T.task old) (M.parts last) (T.task new) }
+    ensures takes { (old new : T) → TakeMoves (T.task old) (T.task new) }
+    ensures takes_failed { (old new : T) → FailedTakeMoves (T.task old) (T.task new) }
+    ensures stops_by_fail { (old new : T) (last : M) → FailMoves (T.task old) (M.parts last) (T.task new) }
+    ensures stops_by_sight { (old new : T) (last : M) → SightMoves (T.task old) (M.parts last) (T.task new) }
+    ensures puts { (old new : T) → PutMoves (T.task old) (T.task new) }
+    ensures looks { (t : T) → LookMoves (T.task t) }
+    ensures raises { (t : T) → RaiseMoves (T.task t) }
 {}
 
 /// What parcels say, what may be put for whom, and how what goes out begins and ends. It does nothing:

@@ -5,4 +5,4 @@
 
 mod laws;
 
-pub use laws::{HasPipeline, pipeline_cases, pipeline_laws};
+pub use laws::{HasPipeline, HasTask, pipeline_cases, pipeline_laws, task_laws};
