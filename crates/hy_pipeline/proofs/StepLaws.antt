@@ -68,7 +68,7 @@ taken_frame : (k p : ℕ) (f : FrameOf) → taken_rows (take_of k p (P.Frame f))
 taken_frame k p f = append-nil (map {B = Taken} (λ row. record { input = k; sender = p; row = row }) (map values_of f.rows)) ∙ taken_each k p f.rows
 
 -- at the input itself
-taken_here : (k p : ℕ) (parcel : Parcel) (old new : PipelineOf) → TakesParcel k p parcel old new → Continues (brings k (old.input k)) (taken_rows (take_of k p parcel)) [] (brings k (new.input k))
+pub taken_here : (k p : ℕ) (parcel : Parcel) (old new : PipelineOf) → TakesParcel k p parcel old new → Continues (brings k (old.input k)) (taken_rows (take_of k p parcel)) [] (brings k (new.input k))
 taken_here k p P.Open old new h = h.brings k
 taken_here k p (P.Frame f) old new h = subst (λ took. Continues (brings k (old.input k)) took [] (brings k (new.input k))) (sym (taken_frame k p f)) (h.brings k)
 taken_here k p P.Fail old new h = h.brings k

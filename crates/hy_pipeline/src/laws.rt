@@ -2,6 +2,7 @@
 
 ghost use Rattle.hy_pipeline.specs.Cases.{FramesAreRows, KeptComesFirst, LeftComesLast, NewWaysAreOfEdges, OfferedToSecond, PutForOne, RowsAreOwed, SwappedAreApart, WaitsForSecond};
 ghost use Rattle.hy_pipeline.specs.Laws.{ComeIsStep, EndedIsStep, EndedRests, FedIsStep, FinishIsStep, LivingAreAlive, NewAreNew, OpenIsStep, PutIsStep, TurnIsStep, WaitingIsFront};
+ghost use Rattle.hy_pipeline.specs.Tests.{BroughtAreRows, ComeAreUntested, EndedAreTested, FedAreTested, TurnedAreTested};
 ghost use Rattle.hy_pipeline.specs.Tasks.{FailMoves, FailedTakeMoves, FaultMoves, LookMoves, PutMoves, RaiseMoves, SightMoves, TakeMoves, WorkMoves};
 
 use hy_course::HasParts;
@@ -27,6 +28,11 @@ pub fn pipeline_laws<T: HasPipeline>()
     ensures new { (t : T) → NewAreNew (T.pipeline t) }
     ensures living { (t : T) → LivingAreAlive (T.pipeline t) }
     ensures ended_rests { (t : T) → EndedRests (T.pipeline t) }
+    ensures brought { BroughtAreRows }
+    ensures fed_tested { (old new : T) → FedAreTested (T.pipeline old) (T.pipeline new) }
+    ensures ended_tested { (old new : T) → EndedAreTested (T.pipeline old) (T.pipeline new) }
+    ensures turned_tested { (old new : T) → TurnedAreTested (T.pipeline old) (T.pipeline new) }
+    ensures come_untested { (old new : T) → ComeAreUntested (T.pipeline old) (T.pipeline new) }
     ensures front { (t : T) → WaitingIsFront (T.pipeline t) }
 {}
 

@@ -1,3 +1,5 @@
+use Rattle.hy_pipeline.proofs.TestLaws.{come_are_untested, ended_are_tested, fed_are_tested, turned_are_tested}
+use Rattle.hy_pipeline.proofs.HandLaws.{brought_are_rows}
 use Rattle.hy_pipeline.proofs.EndLaws.{ended_rests, living_are_alive, new_are_new}
 use Rattle.hy_pipeline.proofs.StepLaws.{come_is_step, ended_is_step, fed_is_step, finish_is_step, open_is_step, put_is_step, turn_is_step, waiting_is_front}
 use Rattle.hy_pipeline.proofs.laws.pipeline_laws.Goals as goal
@@ -34,3 +36,18 @@ returns-clause-living g c t = living_are_alive (g.T.HasPipeline.pipeline t)
 
 pub returns-clause-ended_rests : goal.returns-clause-ended_rests
 returns-clause-ended_rests g c t = ended_rests (g.T.HasPipeline.pipeline t)
+
+pub returns-clause-brought : goal.returns-clause-brought
+returns-clause-brought g c = brought_are_rows
+
+pub returns-clause-fed_tested : goal.returns-clause-fed_tested
+returns-clause-fed_tested g c old new = fed_are_tested (g.T.HasPipeline.pipeline old) (g.T.HasPipeline.pipeline new)
+
+pub returns-clause-ended_tested : goal.returns-clause-ended_tested
+returns-clause-ended_tested g c old new = ended_are_tested (g.T.HasPipeline.pipeline old) (g.T.HasPipeline.pipeline new)
+
+pub returns-clause-turned_tested : goal.returns-clause-turned_tested
+returns-clause-turned_tested g c old new = turned_are_tested (g.T.HasPipeline.pipeline old) (g.T.HasPipeline.pipeline new)
+
+pub returns-clause-come_untested : goal.returns-clause-come_untested
+returns-clause-come_untested g c old new = come_are_untested (g.T.HasPipeline.pipeline old) (g.T.HasPipeline.pipeline new)
