@@ -8,7 +8,7 @@ use Rattle.hy_connect.specs.Outlets.{outlet_at, owed_rows}
 use Rattle.hy_output.specs.Cases.{frame, yes}
 use Rattle.hy_output.specs.Ways.{offers}
 use Rattle.hy_pipeline.specs.Pipeline.{take_of}
-use Rattle.hy_pipeline.specs.Cases.{FramesAreRows, KeptComesFirst, LeftComesLast, NewWaysAreOfEdges, OfferedToSecond, PutForOne, RowsAreOwed, SwappedAreApart, WaitsForSecond, first_waits, no_row, outlet_with, swapped, yes_row}
+use Rattle.hy_pipeline.specs.Cases.{ChecksTest, FailedOwes, FramesAreRows, HandsAreLeft, HandsOfBoth, KeptComesFirst, LeftComesLast, NewWaysAreOfEdges, OfferedToSecond, PutForOne, RowsAreOwed, SwappedAreApart, WaitsForSecond, first_waits, no_row, outlet_with, swapped, yes_row}
 
 abbrev first_input : List Take → ℕ
 first_input [] = 0
@@ -98,3 +98,19 @@ new_ways = (
   λ h. let e = h.at_is 0 (omega arith) in absurd (cc),
   λ h. let e = h.owes 0 (omega arith) in absurd (cc),
 )
+
+-- ---- tasks
+
+pub failed_owes : FailedOwes
+failed_owes = (refl, refl, λ e. absurd (cc), refl, refl, refl)
+
+pub hands_are_left : HandsAreLeft
+unfolding X.values_of
+hands_are_left = (refl, refl, λ e. absurd (cc))
+
+pub hands_of_both : HandsOfBoth
+unfolding X.values_of
+hands_of_both = (refl, λ e. absurd (cc))
+
+pub checks_test : ChecksTest
+checks_test c name = (refl, refl)

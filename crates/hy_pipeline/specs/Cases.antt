@@ -1,21 +1,31 @@
 -- What parcels say, and what may be put for whom: small cases.
-use Rattle.std.specs.Prelude.{◌≡◌, ◌↔◌, ℕ, zero, suc, List, [], ◌∷◌, ◌++◌, None, true, false}
+use Rattle.std.specs.Prelude.{◌≡◌, ◌↔◌, ℕ, zero, suc, List, [], ◌∷◌, ◌++◌, Option, Some, None, true, false}
 use Rattle.al_value.specs.declared.value.Value.TheVariants as V
-use Rattle.hy_rest.specs.Words.{Signal, Open, Rows, Close}
-use Rattle.hy_frame.specs.declared.writer.WriterState.TheVariants.{Opened}
+use Rattle.al_func.specs.declared.rex.Rex.{Rex}
+use Rattle.hy_frame.specs.Row.{Fields}
+use Rattle.hy_rest.specs.Words.{Signal, Open, Rows, Fail, Close}
+use Rattle.hy_frame.specs.declared.writer.WriterState.TheVariants.{Initial, Opened, Failed, Closed}
 use Rattle.hy_job.specs.declared.job.Wire.TheVariants as J
+use Rattle.hy_job.specs.declared.job.Kind.TheVariants as K
 use Rattle.hy_job.specs.Cases.{wire}
+use Rattle.hy_job.specs.Columns.{holds}
 use Rattle.hy_job.specs.Settled.{Take}
 use Rattle.hy_mail.specs.declared.parcel.Parcel.{Parcel}
 use Rattle.hy_mail.specs.declared.parcel.Parcel.TheVariants as P
 use Rattle.hy_driver.specs.Rows.{Row}
 use Rattle.hy_connect.specs.declared.route.Route.TheVariants as R
 use Rattle.hy_connect.specs.Outlets.{OutletOf}
+use Rattle.hy_connect.specs.Sources.{SourceOf}
+use Rattle.hy_connect.specs.Merges.{merger_of}
 use Rattle.hy_output.specs.declared.way.Way.{Way}
 use Rattle.hy_output.specs.declared.way.Way.TheVariants as W
 use Rattle.hy_output.specs.Cases.{frame, keeping, no, yes}
+use Rattle.hy_input.specs.declared.taker.Taker.TheVariants as T
+use Rattle.hy_input.specs.Inputs.{InputOf, input_of}
 use Rattle.hy_pipeline.specs.Pipeline.{AreApart, OffersTo, keeps_on, put_for, signal_of, take_of, waits_for}
-use Rattle.hy_pipeline.specs.Laws.{IsNewWay, Leaves, OwesNothing, TakesMore}
+use Rattle.hy_pipeline.specs.Laws.{IsNewWay, Leaves, OwesNothing}
+use Rattle.hy_pipeline.specs.Tasks.{lacks, owes}
+use Rattle.hy_pipeline.specs.Tests.{at_hand, check_of}
 
 abbrev pub yes_row : Row
 yes_row = V.Bool true ∷ []
@@ -97,3 +107,32 @@ LeftComesLast = Leaves (first_waits []) [] [] × (Leaves (first_waits []) (yes_r
 -- words are no rows, so a Close that waits leaves nothing owed, and a frame does
 abbrev pub RowsAreOwed : Type 0
 RowsAreOwed = OwesNothing (first_waits (P.Close ∷ [])) × (OwesNothing (first_waits (P.Frame (frame (yes ∷ [])) ∷ [])) → ⊥)
+
+-- ---- tasks
+
+-- what waits comes first, then word of the failure and the end; a task that closed lacks nothing
+abbrev pub FailedOwes : Type 0
+FailedOwes = (owes swapped (first_waits (P.Open ∷ [])) 1 ≡ Open ∷ Fail ∷ Close ∷ []) × (owes swapped (first_waits (P.Open ∷ [])) 0 ≡ Fail ∷ Close ∷ [])
+    × (owes swapped (first_waits (P.Open ∷ [])) 1 ≡ Fail ∷ Close ∷ Open ∷ [] → ⊥) × (lacks Failed ≡ Close ∷ []) × (lacks Initial ≡ Open ∷ Fail ∷ Close ∷ []) × (lacks Closed ≡ [])
+
+-- an input of one sender, with these rows at hand, of which so many were gone on to
+abbrev pub holding : List Fields → ℕ → InputOf
+holding rows next = input_of (T.One (record { mailbox = 3; closed = false ∷ [] })) 0 (Some (frame rows)) next false
+
+-- of rows at hand those are still to be tested that were not gone on to
+abbrev pub HandsAreLeft : Type 0
+HandsAreLeft = (at_hand (holding (yes ∷ no ∷ []) 1) ≡ no_row ∷ []) × (at_hand (holding (yes ∷ no ∷ []) 0) ≡ yes_row ∷ no_row ∷ []) × (at_hand (holding (yes ∷ no ∷ []) 1) ≡ yes_row ∷ [] → ⊥)
+
+abbrev pub sending : List Fields → SourceOf
+sending rows = record { mailbox = 3; closed = false; frame = Some (frame rows); next = 0 }
+
+-- a merge of two senders has the rows of both at hand
+abbrev pub merging : List Fields → List Fields → InputOf
+merging first second = input_of (T.Merge (merger_of [] (sending first ∷ sending second ∷ []) None false)) 0 None 0 false
+
+abbrev pub HandsOfBoth : Type 0
+HandsOfBoth = (at_hand (merging (no ∷ []) (yes ∷ [])) ≡ no_row ∷ yes_row ∷ []) × (at_hand (merging (no ∷ []) (yes ∷ [])) ≡ no_row ∷ [] → ⊥)
+
+-- a select is no check, and a check tests by its condition
+abbrev pub ChecksTest : Type 0
+ChecksTest = (c : Rex) (name : List ℕ) → (check_of (K.Select c) ≡ None) × (check_of (K.Check name c) ≡ Some (name, holds c))

@@ -1,6 +1,6 @@
 //! Laws of every task's parts. The function does nothing: its clauses are what it is for.
 
-ghost use Rattle.hy_pipeline.specs.Cases.{FramesAreRows, KeptComesFirst, LeftComesLast, NewWaysAreOfEdges, OfferedToSecond, PutForOne, RowsAreOwed, SwappedAreApart, WaitsForSecond};
+ghost use Rattle.hy_pipeline.specs.Cases.{ChecksTest, FailedOwes, FramesAreRows, HandsAreLeft, HandsOfBoth, KeptComesFirst, LeftComesLast, NewWaysAreOfEdges, OfferedToSecond, PutForOne, RowsAreOwed, SwappedAreApart, WaitsForSecond};
 ghost use Rattle.hy_pipeline.specs.Laws.{ComeIsStep, EndedIsStep, EndedRests, FedIsStep, FinishIsStep, LivingAreAlive, NewAreNew, OpenIsStep, PutIsStep, TurnIsStep, WaitingIsFront};
 ghost use Rattle.hy_pipeline.specs.Tests.{BroughtAreRows, ComeAreUntested, EndedAreTested, FedAreTested, TurnedAreTested};
 ghost use Rattle.hy_pipeline.specs.Tasks.{FailMoves, FailedTakeMoves, FaultMoves, LookMoves, PutMoves, RaiseMoves, SightMoves, TakeMoves, WorkMoves};
@@ -70,4 +70,8 @@ pub fn pipeline_cases()
     ensures new { NewWaysAreOfEdges }
     ensures left { LeftComesLast }
     ensures owed { RowsAreOwed }
+    ensures failed { FailedOwes }
+    ensures hands { HandsAreLeft }
+    ensures both { HandsOfBoth }
+    ensures tests { ChecksTest }
 {}

@@ -1,4 +1,4 @@
-use Rattle.hy_pipeline.proofs.CaseLaws.{frames_are_rows, kept_first, left_last, new_ways, put_for_one, rows_owed, second_offered, swapped_apart, waits_for_second}
+use Rattle.hy_pipeline.proofs.CaseLaws.{checks_test, failed_owes, hands_are_left, hands_of_both, frames_are_rows, kept_first, left_last, new_ways, put_for_one, rows_owed, second_offered, swapped_apart, waits_for_second}
 use Rattle.hy_pipeline.proofs.laws.pipeline_cases.Goals as goal
 
 pub returns-clause-frames : goal.returns-clause-frames
@@ -27,3 +27,15 @@ returns-clause-left c = left_last
 
 pub returns-clause-owed : goal.returns-clause-owed
 returns-clause-owed c = rows_owed
+
+pub returns-clause-failed : goal.returns-clause-failed
+returns-clause-failed c = failed_owes
+
+pub returns-clause-hands : goal.returns-clause-hands
+returns-clause-hands c = hands_are_left
+
+pub returns-clause-both : goal.returns-clause-both
+returns-clause-both c = hands_of_both
+
+pub returns-clause-tests : goal.returns-clause-tests
+returns-clause-tests c = checks_test
