@@ -13,7 +13,7 @@ use Rattle.hy_connect.specs.declared.route.Route.{Route}
 use Rattle.hy_connect.specs.declared.route.Route.TheVariants as R
 use Rattle.hy_connect.specs.Routes.{fills}
 use Rattle.hy_connect.specs.Outlets.{OutletOf, Exports, Lent, Pops, blank, closed, failed, flushed, flushed_with, frames_waiting, held_of, outlet_at, posted}
-use Rattle.hy_connect.specs.Many.{Each, FillNone, HaveRoom, HaveRoomToo, Rips, Spreads}
+use Rattle.hy_connect.specs.Many.{Each, FillNone, HaveRoom, HaveRoomToo, MoreWait, Rips, Spreads}
 use Rattle.hy_connect.specs.Writers.{AddsParcels, Fails, IsAsFar, IsWriter, SendsOn, Tears, TellsWritten, WriterOf, Writes, reserve, writer_of}
 use Rattle.hy_connect.proofs.Exporting.{waiting_opened}
 use Rattle.hy_connect.proofs.Held.{held_none, held_same}
@@ -188,6 +188,12 @@ module _ (self : WriterOf) (route : Route) (arity unit n : ℕ) (lent xs : List 
       → TellsWritten self rows (writer_of route arity unit (written n ys xs) s) result
   rows_told (Ok x) r m ys rows e same wide ok err = wrote r m ys rows e same wide ok
   rows_told (Err x) r m ys rows e same wide ok err = tore r m ys rows e same wide err
+
+  pub rows_parcels : (ys : List OutletOf) → length ys ≡ length lent → MoreWait 1 lent ys → AddsParcels 1 self (writer_of route arity unit (written n ys xs) s)
+  rows_parcels ys len h =
+      subst (λ (l : List OutletOf). AddsParcels 1 self (writer_of route arity unit l s)) (sym (written_is n ys xs (len ∙ ap (λ (l : List OutletOf). length l) p.value) p.len))
+      (subst (λ (w : WriterOf). AddsParcels 1 w (writer_of route arity unit ys s)) p.view
+      (subst (λ (l : List OutletOf). MoreWait 1 l ys) p.value h))
 
 -- ---- a parcel is put
 

@@ -46,6 +46,10 @@ pub record Front (f : OutletOf → OutletOf) (n : ℕ) (old new : List OutletOf)
   pub done : (k : ℕ) → k < n → k < length old → outlet_at new k ≡ f (outlet_at old k)
   pub left : (k : ℕ) → n ≤ k → outlet_at new k ≡ outlet_at old k
 
+-- at most so many parcels more wait in each
+abbrev pub MoreWait : ℕ → List OutletOf → List OutletOf → Type 0
+MoreWait n old new = (k : ℕ) → k < length old → length (outlet_at new k).waits ≤ length (outlet_at old k).waits + n
+
 -- ---- rows
 
 abbrev pub AreOutlets : ℕ → List OutletOf → Type 0

@@ -172,6 +172,7 @@ impl FrameWriter for WireWriter {
         requires out { held_of self.old.outlets + 1 ≤ bank.old.out }
         ensures opened { self.new.state ≡ WriterState.Opened }
         ensures out { bank.new.out + (held_of self.old.outlets + 1) ≡ bank.old.out + held_of self.new.outlets }
+        ensures parcels { AddsParcels 1 self.old self.new }
         ensures bank { (bank.new.unit ≡ bank.old.unit) × (bank.new.limit ≡ bank.old.limit) }
         ensures made { (self.new.arity ≡ self.old.arity) × (self.new.unit ≡ self.old.unit) × (length self.new.outlets ≡ length self.old.outlets) }
         ensures told { TellsWritten self.old (map values_of frame.rows) self.new result }
