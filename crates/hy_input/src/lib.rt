@@ -1,0 +1,8 @@
+//! What comes into a task at one input: parcels of its senders, of which rows come to hand.
+#![tactic(auto)]
+
+mod input;
+mod taker;
+
+pub use input::{Came, Input};
+pub use taker::Taker;
