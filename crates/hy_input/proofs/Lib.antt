@@ -1,3 +1,5 @@
 pub mod Hands
-pub mod Merging
 pub mod Taking
+pub mod Merging
+pub mod Mixing
+pub mod Bringing

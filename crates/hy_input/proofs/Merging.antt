@@ -25,9 +25,9 @@ merging m from frame next up = input_of (T.Merge m) from frame next up
 
 and_below : (p n : ℕ) (b c : Bool) → (p < n → b ≡ c) → (nat_lt p n && b) ≡ (nat_lt p n && c)
 and_below p n b c h = elim (cases_Bool (nat_lt p n)) [
-    | inl y ↦ ap (λ (x : Bool). nat_lt p n && x) (h (ltb-true p n y))
-    | inr z ↦ ap (λ (x : Bool). x && b) z ∙ ap (λ (x : Bool). x && c) (sym z)
-  ]
+  | inl y ↦ ap (λ (x : Bool). nat_lt p n && x) (h (ltb-true p n y))
+  | inr z ↦ ap (λ (x : Bool). x && b) z ∙ ap (λ (x : Bool). x && c) (sym z)
+]
 
 pub merge_stays : (m m' : MergerOf) (from : ℕ) (frame : Option FrameOf) (next : ℕ) (up : Bool) (frame' : Option FrameOf) (next' : ℕ) (up' : Bool) → StaysMerger m m' → Stays (merging m from frame next up) (merging m' from frame' next' up')
 merge_stays m m' from frame next up frame' next' up' s = record {
@@ -100,9 +100,9 @@ merge_closes m m' s from frame next up low g = record {
   closed = λ q. by_cases (nat_eq q s)
       (λ y. let is = same_number q s y in
       here_too (nat_eq q s) (nat_lt q (senders m') && (source m' q).closed) (nat_lt q (senders m) && (source m q).closed) y
-          (both (nat_lt q (senders m')) (source m' q).closed (lt-ltb q (senders m') (subst (λ (c : ℕ). q < c) (sym g.still.count) (subst (λ (j : ℕ). j < senders m) (sym is) low))) (ap (λ (j : ℕ). (source m' j).closed) is ∙ g.here)))
+      (both (nat_lt q (senders m')) (source m' q).closed (lt-ltb q (senders m') (subst (λ (c : ℕ). q < c) (sym g.still.count) (subst (λ (j : ℕ). j < senders m) (sym is) low))) (ap (λ (j : ℕ). (source m' j).closed) is ∙ g.here)))
       (λ n. or_else (nat_eq q s) (nat_lt q (senders m') && (source m' q).closed) (nat_lt q (senders m) && (source m q).closed) n
-          (ap (λ (c : ℕ). nat_lt q c && (source m' q).closed) g.still.count ∙ ap (λ (c : Bool). nat_lt q (senders m) && c) (g.others q (other_number q s n))));
+      (ap (λ (c : ℕ). nat_lt q c && (source m' q).closed) g.still.count ∙ ap (λ (c : Bool). nat_lt q (senders m) && c) (g.others q (other_number q s n))));
   brings = λ k. at_input m m' k [] (g.gives k);
 }
 
@@ -127,10 +127,15 @@ merge_comes happens port port' m m' from frame next up I.Empty h =
     ((source m h.0).mailbox, 0, h.0, wanted_sends m h.0 from frame next up h.1, merge_rests m m' from frame next frame next up h.2, h.3)
 merge_comes happens port port' m m' from frame next up I.Rows h =
     ((source m h.0).mailbox, 0, h.0, h.1, wanted_sends m h.0 from frame next up h.2, merge_rows m m' h.0 h.1 from frame next up m.given_up h.3, h.4)
-merge_comes happens port port' m m' from frame next up I.Word h =
-    ((source m h.0).mailbox, 0, h.0, wanted_sends m h.0 from frame next up h.1, elim h.2 [
-      | inl o ↦ inl (merge_rests m m' from frame next frame next up o.0, o.1)
-      | inr c ↦ inr (merge_closes m m' h.0 from frame next up h.1.there c.0, c.1)
-    ])
+merge_comes happens port port' m m' from frame next up I.Word h = (
+  (source m h.0).mailbox,
+  0,
+  h.0,
+  wanted_sends m h.0 from frame next up h.1,
+  elim h.2 [
+    | inl o ↦ inl (merge_rests m m' from frame next frame next up o.0, o.1)
+    | inr c ↦ inr (merge_closes m m' h.0 from frame next up h.1.there c.0, c.1)
+  ],
+)
 merge_comes happens port port' m m' from frame next up I.Failed h =
     ((source m h.0).mailbox, 0, h.0, wanted_sends m h.0 from frame next up h.1, merge_rests m m' from frame next frame next up h.2, h.3)

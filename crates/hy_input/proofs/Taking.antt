@@ -180,20 +180,32 @@ module _ {P : Type 0} (happens : P → Event → P → Type 0) (port port' : P) 
 
   pub plain_word : (t t' : Taker) → HasOne t → wants_by t (drop next (frame_rows frame)) → TellsTakenBy happens port port' bank bank' t t' K.Word → TellsCame happens port port' (was t) (then_is t') C.Word × (bank' ≡ bank)
   plain_word (T.One t) (T.One t') one w h = (
-    (t.mailbox, h.2.0, from, (refl, h.2.1, refl), elim h.2.2 [
-      | inl o ↦ inl (subst (λ (x : TakerOf). Rests (was (T.One t)) (then_is (T.One x))) (sym o.0) (one_rests t from frame next up w.0), o.1)
-      | inr c ↦ inr (subst (λ (x : TakerOf). Closes from (was (T.One t)) (then_is (T.One x))) (sym c.0) (one_closes t from frame next up w.0 h.2.0 one h.2.1), c.1)
-    ]),
+    (
+      t.mailbox,
+      h.2.0,
+      from,
+      (refl, h.2.1, refl),
+      elim h.2.2 [
+        | inl o ↦ inl (subst (λ (x : TakerOf). Rests (was (T.One t)) (then_is (T.One x))) (sym o.0) (one_rests t from frame next up w.0), o.1)
+        | inr c ↦ inr (subst (λ (x : TakerOf). Closes from (was (T.One t)) (then_is (T.One x))) (sym c.0) (one_closes t from frame next up w.0 h.2.0 one h.2.1), c.1)
+      ],
+    ),
     h.1,
   )
   plain_word (T.One t) (T.Many t') one w h = absurd h
   plain_word (T.One t) (T.Merge m) one w h = absurd h
   plain_word (T.Many t) (T.One t') one w h = absurd h
   plain_word (T.Many t) (T.Many t') one w h = (
-    (t.mailbox, h.2.0, h.2.0, (refl, h.2.1, refl), elim h.2.2 [
-      | inl o ↦ inl (subst (λ (x : TakerOf). Rests (was (T.Many t)) (then_is (T.Many x))) (sym o.0) (many_rests t from frame next up w.0), o.1)
-      | inr c ↦ inr (subst (λ (x : TakerOf). Closes h.2.0 (was (T.Many t)) (then_is (T.Many x))) (sym c.0) (many_closes t from frame next up w.0 h.2.0 h.2.1), c.1)
-    ]),
+    (
+      t.mailbox,
+      h.2.0,
+      h.2.0,
+      (refl, h.2.1, refl),
+      elim h.2.2 [
+        | inl o ↦ inl (subst (λ (x : TakerOf). Rests (was (T.Many t)) (then_is (T.Many x))) (sym o.0) (many_rests t from frame next up w.0), o.1)
+        | inr c ↦ inr (subst (λ (x : TakerOf). Closes h.2.0 (was (T.Many t)) (then_is (T.Many x))) (sym c.0) (many_closes t from frame next up w.0 h.2.0 h.2.1), c.1)
+      ],
+    ),
     h.1,
   )
   plain_word (T.Many t) (T.Merge m) one w h = absurd h
@@ -213,20 +225,20 @@ module _ {P : Type 0} (happens : P → Event → P → Type 0) (port port' : P) 
 
   -- the same, of an input that is seen whole
   pub moved : (answer : Taken) (came : Came) (t t' : Taker) (old mid : InputOf) → (wants_by t (drop next (frame_rows frame)) → TellsTakenBy happens port port' bank bank' t t' answer → TellsCame happens port port' (was t) (then_is t') came)
-      → was t ≡ old → Wants old → mid ≡ input_of old.taker old.from None 0 old.given_up → TellsTakenBy happens port port' bank bank' mid.taker t' answer
+      → was t ≡ old → Wants old → mid ≡ then_is t → TellsTakenBy happens port port' bank bank' mid.taker t' answer
       → TellsCame happens port port' old (input_of t' mid.from mid.frame mid.next mid.given_up) came
   moved answer came t t' old mid plain view w e told =
-      subst (λ (x : InputOf). Wants x → mid ≡ input_of x.taker x.from None 0 x.given_up → TellsCame happens port port' x (input_of t' mid.from mid.frame mid.next mid.given_up) came) view
-      (λ v d. subst (λ (x : InputOf). TellsTakenBy happens port port' bank bank' x.taker t' answer → TellsCame happens port port' (was t) (input_of t' x.from x.frame x.next x.given_up) came) (sym d) (plain v) told)
-      w e
+      subst (λ (x : InputOf). Wants x → TellsCame happens port port' x (input_of t' mid.from mid.frame mid.next mid.given_up) came) view
+      (λ v. subst (λ (x : InputOf). TellsTakenBy happens port port' bank bank' x.taker t' answer → TellsCame happens port port' (was t) (input_of t' x.from x.frame x.next x.given_up) came) (sym e) (plain v) told)
+      w
 
-  pub moved_rows : (f : FrameOf) (t t' : Taker) (old mid new : InputOf) → was t ≡ old → Wants old → mid ≡ input_of old.taker old.from None 0 old.given_up → TellsTakenBy happens port port' bank bank' mid.taker t' (K.Frame f)
+  pub moved_rows : (f : FrameOf) (t t' : Taker) (old mid new : InputOf) → was t ≡ old → Wants old → mid ≡ then_is t → TellsTakenBy happens port port' bank bank' mid.taker t' (K.Frame f)
       → new ≡ kept_by mid.given_up f (input_of t' mid.from mid.frame mid.next mid.given_up) → TellsCame happens port port' old new C.Rows
   moved_rows f t t' old mid new view w e told is =
       subst (λ (x : InputOf). TellsCame happens port port' old x C.Rows) (sym is)
-      (subst (λ (x : InputOf). Wants x → mid ≡ input_of x.taker x.from None 0 x.given_up → TellsCame happens port port' x (kept_by mid.given_up f (input_of t' mid.from mid.frame mid.next mid.given_up)) C.Rows) view
-      (λ v d. subst (λ (x : InputOf). TellsTakenBy happens port port' bank bank' x.taker t' (K.Frame f) → TellsCame happens port port' (was t) (kept_by x.given_up f (input_of t' x.from x.frame x.next x.given_up)) C.Rows) (sym d) (plain_rows t t' f v) told)
-      w e)
+      (subst (λ (x : InputOf). Wants x → TellsCame happens port port' x (kept_by mid.given_up f (input_of t' mid.from mid.frame mid.next mid.given_up)) C.Rows) view
+      (λ v. subst (λ (x : InputOf). TellsTakenBy happens port port' bank bank' x.taker t' (K.Frame f) → TellsCame happens port port' (was t) (kept_by x.given_up f (input_of t' x.from x.frame x.next x.given_up)) C.Rows) (sym e) (plain_rows t t' f v) told)
+      w)
 
   -- ---- frames
 

@@ -2,7 +2,9 @@
 #![tactic(auto)]
 
 mod input;
+mod laws;
 mod taker;
 
 pub use input::{Came, Input};
+pub use laws::input_laws;
 pub use taker::Taker;
