@@ -124,8 +124,8 @@ are_brought k x more width may at_hand come = let b = by_taker x.taker may at_ha
 
 -- where each sender has closed, nothing comes
 none_comes : (k : ℕ) (x : InputOf) (more : List Taken) → ((m n p : ℕ) → IsSent x m n p → closed_at x p ≡ false → ⊥) → MayBring k x more → only_at k more ≡ []
-none_comes k x [] no h = refl
-none_comes k x (t ∷ more) no h = by_cases (nat_eq t.input k)
+none_comes k x [] never h = refl
+none_comes k x (t ∷ more) never h = by_cases (nat_eq t.input k)
     (λ y. let g = h.0 (same_number t.input k y) in absurd (never g.0.0 g.0.1 t.sender g.0.2 g.1))
     (λ n. row_not k t more n ∙ none_comes k x more never h.1)
 
