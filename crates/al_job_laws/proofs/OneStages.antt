@@ -8,49 +8,10 @@ use Rattle.hy_job.specs.declared.job.Stage.{Stage}
 use Rattle.hy_job.specs.Stages.{IsPart, IsNext, AreNext, activities_in, least_of}
 use Rattle.hy_job.proofs.Members.{in_here, in_there, in_none, in_cases, rising_rest, rising_first}
 use Rattle.hy_job.proofs.Connections.{goes_along}
+use Rattle.hy_places.proofs.Parts.{one_part}
 use Rattle.al_job_laws.specs.InOrder.{StagesAreOne}
 
--- ---- rising lists of the same numbers
-
-abbrev Rises : List ℕ → Type 0
-Rises xs = AllPairs (λ (a : ℕ) (b : ℕ). a < b) xs
-
-abbrev Holds : List ℕ → List ℕ → Type 0
-Holds ys xs = (a : ℕ) → Contains xs a → Contains ys a
-
-above_first : (x a : ℕ) (xs : List ℕ) → Rises (x ∷ xs) → Contains xs a → x < a
-above_first x a xs h m =
-    let less : x < get_or xs m.0 a = h 0 (suc m.0) a (omega arith) (omega (arith, m.1)) in
-    omega (arith, less, m.2)
-
-rest_holds : (x y : ℕ) (xs ys : List ℕ) → x ≡ y → Rises (x ∷ xs) → Holds (y ∷ ys) (x ∷ xs) → Holds ys xs
-rest_holds x y xs ys same rises holds a m = by_case (in_cases y a ys (holds a (in_there x a xs m))) where
-  by_case : (y ≡ a) ⊎ Contains ys a → Contains ys a
-  by_case (inl is) = absurd (omega (arith, above_first x a xs rises m, same, is))
-  by_case (inr there) = there
-
-same_numbers : (xs ys : List ℕ) → Rises xs → Rises ys → Holds ys xs → Holds xs ys → xs ≡ ys
-same_numbers [] [] h k f g = refl
-same_numbers [] (y ∷ ys) h k f g = absurd (in_none y (g y (in_here y ys)))
-same_numbers (x ∷ xs) [] h k f g = absurd (in_none x (f x (in_here x xs)))
-same_numbers (x ∷ xs) (y ∷ ys) h k f g =
-    let low = rising_first x y xs h (g y (in_here y ys)) in
-    let high = rising_first y x ys k (f x (in_here x xs)) in
-    let same : x ≡ y = omega (arith, low, high) in
-    let others = same_numbers xs ys (rising_rest x xs h) (rising_rest y ys k) (rest_holds x y xs ys same h f) (rest_holds y x ys xs (sym same) k g) in
-    ap (λ (z : ℕ). z ∷ xs) same ∙ ap (λ (zs : List ℕ). y ∷ zs) others
-
 -- ---- parts
-
--- a part that has an activity of another has all of it
-part_holds : (job : Job) (part other : List ℕ) (a : ℕ) → IsPart job part → IsPart job other → Contains part a → Contains other a → Holds other part
-part_holds job part other a p q here there x m =
-    let way = p.connected a x here m in
-    goes_along job (Contains other) (λ u v inside link. q.closed u v inside link) a x way.0 there way.1
-
-one_part : (job : Job) (part other : List ℕ) (a : ℕ) → IsPart job part → IsPart job other → Contains part a → Contains other a → part ≡ other
-one_part job part other a p q here there =
-    same_numbers part other (AllPairs-from_increasing part p.rising) (AllPairs-from_increasing other q.rising) (part_holds job part other a p q here there) (part_holds job other part a q p there here)
 
 has_least : (part : List ℕ) → part ≢ [] → Contains part (least_of part)
 has_least [] some = absurd (some refl)

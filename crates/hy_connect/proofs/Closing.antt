@@ -12,9 +12,10 @@ use Rattle.hy_driver.specs.Rows.{Row}
 use Rattle.hy_connect.specs.declared.route.Route.{Route}
 use Rattle.hy_connect.specs.declared.route.Route.TheVariants as R
 use Rattle.hy_connect.specs.Routes.{fills}
-use Rattle.hy_connect.specs.Outlets.{OutletOf, Lent, Pops, blank, closed, failed, flushed, flushed_with, held_of, outlet_at, posted}
-use Rattle.hy_connect.specs.Many.{Each, FillNone, HaveRoom, HaveRoomToo, Rips, Spreads}
+use Rattle.hy_connect.specs.Outlets.{OutletOf, Exports, Lent, Pops, blank, closed, failed, flushed, flushed_with, frames_waiting, held_of, outlet_at, posted}
+use Rattle.hy_connect.specs.Many.{Each, FillNone, HaveRoom, HaveRoomToo, MoreWait, Rips, Spreads}
 use Rattle.hy_connect.specs.Writers.{AddsParcels, Fails, IsAsFar, IsWriter, SendsOn, Tears, TellsWritten, WriterOf, Writes, reserve, writer_of}
+use Rattle.hy_connect.proofs.Exporting.{waiting_opened}
 use Rattle.hy_connect.proofs.Held.{held_none, held_same}
 use Rattle.hy_connect.proofs.Writing.{closed_none, closed_quiet, closes, closing_room, far_same, failed_fails, failed_none, failed_quiet, failed_stays, opened_stays, opened_writes, pops_far, pops_sends, rips_tears, spread_writes}
 
@@ -142,6 +143,16 @@ module _ (self : WriterOf) (route : Route) (arity unit n : ℕ) (lent xs : List 
       subst (λ (l : List OutletOf). Each (posted P.Close) self.outlets l) (sym (back closed ys h))
       (subst (λ (l : List OutletOf). Each (posted P.Close) l ys) (ap (λ (w : WriterOf). w.outlets) p.view) alone)
 
+  -- ---- frames
+
+  pub open_waiting : (ys : List OutletOf) → Each (posted P.Open) lent ys → frames_waiting (written n ys xs) ≡ frames_waiting self.outlets
+  open_waiting ys h = ap frames_waiting (back (posted P.Open) ys h) ∙ waiting_opened lent ys h ∙ ap frames_waiting (p.value ∙ ap (λ (w : WriterOf). w.outlets) p.view)
+
+  pub all_exports : (ys : List OutletOf) (a b : BankOf) → length ys ≡ length lent → Exports (frames_waiting lent) (frames_waiting ys) a b → Exports (frames_waiting self.outlets) (frames_waiting (written n ys xs)) a b
+  all_exports ys a b count x =
+      subst (λ (l : List OutletOf). Exports (frames_waiting self.outlets) (frames_waiting l) a b) (sym (written_is n ys xs (count ∙ ap (λ (l : List OutletOf). length l) p.value) p.len))
+      (subst (λ (l : List OutletOf). Exports (frames_waiting l) (frames_waiting ys) a b) (p.value ∙ ap (λ (w : WriterOf). w.outlets) p.view) x)
+
   -- ---- rows
 
   pub whole_out : (ys : List OutletOf) (a b : BankOf) → self.state ≡ Opened → route ≡ R.Whole → length ys ≡ length lent → FillNone ys → Lent 1 0 a b → b.out + (held_of self.outlets + 1) ≡ a.out + held_of (written n ys xs)
@@ -177,6 +188,12 @@ module _ (self : WriterOf) (route : Route) (arity unit n : ℕ) (lent xs : List 
       → TellsWritten self rows (writer_of route arity unit (written n ys xs) s) result
   rows_told (Ok x) r m ys rows e same wide ok err = wrote r m ys rows e same wide ok
   rows_told (Err x) r m ys rows e same wide ok err = tore r m ys rows e same wide err
+
+  pub rows_parcels : (ys : List OutletOf) → length ys ≡ length lent → MoreWait 1 lent ys → AddsParcels 1 self (writer_of route arity unit (written n ys xs) s)
+  rows_parcels ys len h =
+      subst (λ (l : List OutletOf). AddsParcels 1 self (writer_of route arity unit l s)) (sym (written_is n ys xs (len ∙ ap (λ (l : List OutletOf). length l) p.value) p.len))
+      (subst (λ (w : WriterOf). AddsParcels 1 w (writer_of route arity unit ys s)) p.view
+      (subst (λ (l : List OutletOf). MoreWait 1 l ys) p.value h))
 
 -- ---- a parcel is put
 

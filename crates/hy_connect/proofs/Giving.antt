@@ -1,8 +1,7 @@
 -- What the calls of a merging taker do to what it may still give.
-use Rattle.std.proofs.Common.{◌≡◌, ◌≢◌, ◌<◌, ◌≤◌, ◌+◌, ℕ, zero, suc, Bool, true, false, nat_eq, List, [], ◌∷◌, ◌++◌, map, length, Option, None, Some, refl, sym, ap, subst, ◌∙◌, arith}
+use Rattle.std.proofs.Common.{◌≡◌, ◌≢◌, ◌<◌, ℕ, zero, suc, Bool, true, false, nat_eq, List, [], ◌∷◌, ◌++◌, map, length, Option, Some, refl, sym, ap, subst, ◌∙◌, arith}
 use Rattle.std.specs.List.{AllByRecursion, range_with_len}
 use Rattle.std.specs.List.Sorted.{IsSorted}
-use Rattle.std.specs.Ordering.{is_lt}
 use Rattle.std.proofs.lemmas.List.{get_or_past}
 use Rattle.al_value.specs.declared.settings.SortKey.{SortKey}
 use Rattle.hy_frame.specs.Frame.{FrameOf}
@@ -13,7 +12,7 @@ use Rattle.hy_job.specs.Runs.{Taken as TakenRow, rows_of}
 use Rattle.hy_job.proofs.Members.{by_cases, nat_same, no_bool}
 use Rattle.hy_driver.specs.Rows.{Row, values_of}
 use Rattle.hy_connect.specs.Sources.{SourceOf, AllClosed, IsLeast, Lacks, NoneAtHand, NoneLacks, first_at, first_of, hand, is_before, no_source, source_at}
-use Rattle.hy_connect.specs.Merges.{IsMerge, IsOfOpen, MergerOf, may_give, merger_of, rows_from, rows_taken}
+use Rattle.hy_connect.specs.Merges.{IsMerge, IsOfOpen, may_give, merger_of, rows_from, rows_taken}
 use Rattle.hy_connect.proofs.Merging.{NotLess, after_first, below_all, keys_order, merge_first, merge_none, merge_same, merged_none, other_number, same_number}
 
 -- ---- rows that are taken

@@ -1,12 +1,12 @@
 -- Rows at hand, and how many frames hold them.
-use Rattle.std.proofs.Common.{◌≡◌, ◌≢◌, ◌⊎◌, ◌<◌, ◌≤◌, ◌+◌, ◌-◌, inl, inr, ℕ, zero, suc, Bool, true, false, List, [], ◌∷◌, length, drop, set, get_or, Option, None, Some, refl, sym, ap, subst, ◌∙◌, arith, length-set, get_or-set_other}
+use Rattle.std.proofs.Common.{◌≡◌, ◌≢◌, ◌⊎◌, ◌<◌, ◌≤◌, ◌+◌, ◌-◌, inl, inr, ℕ, zero, suc, List, [], ◌∷◌, length, drop, set, get_or, Option, None, Some, refl, sym, ap, subst, ◌∙◌, arith, length-set, get_or-set_other}
 use Rattle.std.proofs.lemmas.Grind.{get_or-set_at}
 use Rattle.std.proofs.lemmas.List.{drop_all, drop_more, get_or_default}
 use Rattle.hy_frame.specs.Bank.{BankOf}
 use Rattle.hy_frame.specs.Frame.{FrameOf}
 use Rattle.hy_frame.specs.Row.{Fields}
 use Rattle.hy_connect.specs.Outlets.{held_in}
-use Rattle.hy_connect.specs.Sources.{SourceOf, AreBareBefore, AreBare, Brings, HasGiven, LetGo, LetGoBefore, LetsGo, Returns, advanced, bare, first_of, frame_rows, frames_held, given, hand, no_source, source_at}
+use Rattle.hy_connect.specs.Sources.{SourceOf, AreBareBefore, AreBare, Brings, HasGiven, LetGo, LetGoBefore, LetsGo, Returns, advanced, bare, frame_rows, frames_held, given, hand, no_source, source_at}
 use Rattle.hy_connect.proofs.Fronts.{last_or_before}
 
 -- ---- one sender

@@ -1,7 +1,6 @@
 -- A look for the least of the first rows.
-use Rattle.std.proofs.Common.{◌≡◌, ◌≢◌, ◌⊎◌, ◌<◌, ◌≤◌, ◌+◌, inl, inr, ℕ, Bool, true, false, List, [], ◌∷◌, length, Option, None, Some, refl, sym, ap, subst, ◌∙◌, arith}
+use Rattle.std.proofs.Common.{◌≡◌, ◌≢◌, ◌⊎◌, ◌<◌, ◌≤◌, ◌+◌, inl, inr, ℕ, Bool, true, false, List, [], ◌∷◌, length, Option, None, Some, refl, sym, subst, arith}
 use Rattle.std.specs.Prelude.{if◌then◌else◌}
-use Rattle.std.specs.Cmp.{IsStrictWeakOrder}
 use Rattle.al_value.specs.declared.settings.SortKey.{SortKey}
 use Rattle.hy_frame.specs.Row.{Fields}
 use Rattle.hy_job.proofs.Members.{by_cases, no_bool}

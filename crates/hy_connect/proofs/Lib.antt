@@ -14,3 +14,6 @@ pub mod Hands
 pub mod Leasts
 pub mod Merger
 pub mod MergeCaseProofs
+pub mod Waiting
+pub mod Exporting
+pub mod Filling

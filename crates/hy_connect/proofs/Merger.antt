@@ -1,5 +1,5 @@
 -- What the calls of a merging taker tell, by its parts.
-use Rattle.std.proofs.Common.{◌≡◌, ◌≢◌, ◌⊎◌, ◌<◌, ◌≤◌, ◌+◌, ◌^◌, inl, inr, ℕ, Bool, true, false, nat_eq, List, [], ◌∷◌, ◌++◌, map, length, set, get_or, Option, None, Some, refl, sym, ap, subst, ◌∙◌, arith, length-set}
+use Rattle.std.proofs.Common.{◌≡◌, ◌≢◌, ◌<◌, ◌≤◌, ◌+◌, inl, inr, ℕ, Bool, true, false, nat_eq, List, [], ◌∷◌, ◌++◌, map, length, set, get_or, Option, None, Some, refl, sym, ap, subst, ◌∙◌, arith, length-set}
 use Rattle.al_value.specs.declared.settings.SortKey.{SortKey}
 use Rattle.std.specs.List.{range_with_len}
 use Rattle.hy_frame.specs.Bank.{BankOf, one_more}
@@ -18,10 +18,10 @@ use Rattle.hy_connect.specs.declared.merge.Merged.TheVariants as M
 use Rattle.hy_connect.specs.declared.taker.Taken.{Taken}
 use Rattle.hy_connect.specs.declared.taker.Taken.TheVariants as T
 use Rattle.hy_connect.specs.Outlets.{held_in}
-use Rattle.hy_connect.specs.Sources.{SourceOf, AllClosed, AreBare, AreNew, Brings, HasGiven, IsLeast, IsWanted, Lacks, LetGo, LetsGo, NoneAtHand, NoneLacks, Returns, TellsTake, advanced, bare, closing, first_at, first_of, frames_held, given, hand, is_before, keeping, source_at}
+use Rattle.hy_connect.specs.Sources.{SourceOf, AllClosed, AreBare, AreNew, Brings, HasGiven, IsLeast, IsWanted, Lacks, LetGo, NoneAtHand, NoneLacks, Returns, TellsTake, advanced, bare, closing, first_at, first_of, frames_held, given, hand, is_before, keeping, source_at}
 use Rattle.hy_connect.specs.Merges.{BeginsBy, Closes, Gets, Gives, GivesUp, HasCurrent, IsMerge, IsMerging, MergerOf, Rests, StaysMerger, TellsMergeTake, TellsMerged, may_give, merge_keys, merger_of, rows_from}
 use Rattle.hy_connect.proofs.Merging.{merge_same, other_number, same_number}
-use Rattle.hy_connect.proofs.Giving.{GoOn, gets_on, gives_on, nothing_left, rests_on}
+use Rattle.hy_connect.proofs.Giving.{gets_on, gives_on, nothing_left, rests_on}
 use Rattle.hy_connect.proofs.Hands.{advanced_given, advanced_hand, bare_hand, brings_set, frames_none, frames_set, keep_source, read_source, returns_none, returns_set, returns_then, set_source, source_held}
 
 -- ---- a sender is taken from

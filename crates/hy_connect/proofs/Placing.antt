@@ -4,7 +4,7 @@ use Rattle.std.specs.List.Sorted.{IsStrictlyIncreasing}
 use Rattle.std.specs.List.{range_with_len}
 use Rattle.hy_job.specs.Boxes.{place_where}
 use Rattle.hy_job.proofs.Boxes.{is_nat}
-use Rattle.hy_connect.specs.Plans.{place_of}
+use Rattle.hy_places.specs.Finding.{place_of}
 use Rattle.hy_connect.proofs.Spreading.{same_or_not}
 
 abbrev is_task : ℕ → ℕ → ℕ × ℕ → Bool

@@ -16,7 +16,8 @@ use Rattle.hy_job.specs.Stages.{IsPart}
 use Rattle.hy_job.specs.Sound.{SoundJob}
 use Rattle.hy_job.proofs.Members.{any_from, from_filter, range_below}
 use Rattle.hy_job.proofs.Pairs.{from_range}
-use Rattle.hy_connect.specs.Plans.{edge_plans, ends_of, plan_at, plan_of, place_of, plans_at, plans_of, plans_over}
+use Rattle.hy_places.specs.Finding.{place_of}
+use Rattle.hy_connect.specs.Plans.{edge_plans, ends_of, plan_at, plan_of, plans_at, plans_of, plans_over}
 use Rattle.hy_connect.proofs.Placing.{few_activities, here, past, place_row}
 
 -- ---- lists
@@ -162,11 +163,3 @@ few_in job stage sound part =
 
 pub product_small : (p n : ℕ) → p ≤ 1048576 → n ≤ 16 → p * n < 16777217
 product_small p n low high = let m : p * n ≤ 1048576 * 16 = mul-le-mul low high in omega arith
-
-pub place_here : (xs : List ℕ) (i a : ℕ) → i < length xs → nat_eq (get_or xs i 0) a ≡ true → place_of (drop i xs) a ≡ 0
-place_here xs i a low e = ap (λ (l : List ℕ). place_of l a) (drop-cons xs i 0 low) ∙ here (λ (b : ℕ). nat_eq b a) (get_or xs i 0) (drop (suc i) xs) e
-
-pub place_past : (xs : List ℕ) (i a : ℕ) → i < length xs → nat_eq (get_or xs i 0) a ≡ false → place_of (drop i xs) a ≡ place_of (drop (i + 1) xs) a + 1
-place_past xs i a low e =
-    ap (λ (l : List ℕ). place_of l a) (drop-cons xs i 0 low) ∙ past (λ (b : ℕ). nat_eq b a) (get_or xs i 0) (drop (suc i) xs) e
-    ∙ ap (λ (k : ℕ). place_of (drop k xs) a + 1) (sym (add-one i))

@@ -18,6 +18,7 @@ use Rattle.hy_connect.specs.Outlets.{OutletOf, GoesOn, HasFilled, IsOutlet, IsSe
 use Rattle.hy_connect.specs.Many.{Each, FillNone, HaveRoomToo, Rips, Spreads}
 use Rattle.hy_connect.specs.Writers.{Fails, IsAsFar, IsWriter, MayGive, SendsOn, Tears, Writes, may_offer, reserve, writer_of}
 use Rattle.hy_connect.proofs.Adding.{leads_push, owed_none, sendable_push, waiting_push}
+use Rattle.hy_connect.proofs.Exporting.{waiting_popped}
 use Rattle.hy_connect.proofs.Fronts.{set_at, set_off}
 use Rattle.hy_connect.proofs.Held.{held_in_most}
 use Rattle.hy_connect.proofs.Spreading.{same_or_not, sent_append, sent_nil}
@@ -294,6 +295,7 @@ pops_sends route arity unit xs s k p o is there h =
       state = refl;
       first = h'.first;
       others = λ j off. set_off xs k j o off;
+      frames = waiting_popped xs k p o there h;
       sendable = waits.0;
       offers = pops_offers route arity unit xs (set xs k o) s k p (length-set xs k o) h';
     }

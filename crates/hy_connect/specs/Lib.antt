@@ -8,3 +8,4 @@ pub mod Sources
 pub mod Merges
 pub mod Cases
 pub mod MergeCases
+pub mod Filling

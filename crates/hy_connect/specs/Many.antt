@@ -11,10 +11,6 @@ use Rattle.hy_connect.specs.declared.route.Route.TheVariants as R
 use Rattle.hy_connect.specs.Routes.{sent_by}
 use Rattle.hy_connect.specs.Outlets.{OutletOf, Adds, Cuts, IsOutlet, held_in, outlet_at}
 
--- no two of these numbers are one
-abbrev pub AreDifferent : List ℕ → Type 0
-AreDifferent boxes = (j k : ℕ) → j < length boxes → k < length boxes → slice_index_or boxes j 0 ≡ slice_index_or boxes k 0 → j ≡ k
-
 abbrev pub parcel_of : Mark → Parcel
 parcel_of M.Open = P.Open
 parcel_of M.Fail = P.Fail
@@ -49,6 +45,10 @@ pub record Front (f : OutletOf → OutletOf) (n : ℕ) (old new : List OutletOf)
   pub count : length new ≡ length old
   pub done : (k : ℕ) → k < n → k < length old → outlet_at new k ≡ f (outlet_at old k)
   pub left : (k : ℕ) → n ≤ k → outlet_at new k ≡ outlet_at old k
+
+-- at most so many parcels more wait in each
+abbrev pub MoreWait : ℕ → List OutletOf → List OutletOf → Type 0
+MoreWait n old new = (k : ℕ) → k < length old → length (outlet_at new k).waits ≤ length (outlet_at old k).waits + n
 
 -- ---- rows
 

@@ -1,5 +1,5 @@
 -- Worked cases of what contracts say of merging takers.
-use Rattle.std.specs.Prelude.{◌≡◌, ℕ, true, false, List, [], ◌∷◌, Some, None}
+use Rattle.std.specs.Prelude.{ℕ, true, false, List, [], ◌∷◌, Some, None}
 use Rattle.al_value.specs.declared.settings.SortKey.{SortKey}
 use Rattle.hy_job.specs.Runs.{Taken as TakenRow}
 use Rattle.hy_connect.specs.Cases.{false_row, true_frame, true_row}

@@ -1,5 +1,5 @@
 -- What a writer holds for one of its receivers.
-use Rattle.std.specs.Prelude.{◌≡◌, ◌≢◌, ◌≤◌, ◌-◌, ◌+◌, ℕ, List, [], ◌∷◌, ◌++◌, map, slice_index_or, Option, Some, None}
+use Rattle.std.specs.Prelude.{◌≡◌, ◌≢◌, ◌<◌, ◌≤◌, ◌-◌, ◌+◌, ◌^◌, ℕ, List, [], ◌∷◌, ◌++◌, map, slice_index_or, Option, Some, None}
 use Rattle.std.specs.List.{flat_map, AllByRecursion}
 use Rattle.hy_frame.specs.Bank.{BankOf}
 use Rattle.hy_frame.specs.Frame.{FrameOf, with_rows}
@@ -61,6 +61,29 @@ pub record Lent (held held' : ℕ) (bank bank' : BankOf) : Type 0 where
   pub out : bank'.out + held ≡ bank.out + held'
   pub unit : bank'.unit ≡ bank.unit
   pub limit : bank'.limit ≡ bank.limit
+
+abbrev pub frames_of : Parcel → ℕ
+frames_of P.Open = 0
+frames_of (P.Frame f) = 1
+frames_of P.Fail = 0
+frames_of P.Close = 0
+
+-- how many of these parcels are frames
+abbrev pub frames_in : List Parcel → ℕ
+frames_in [] = 0
+frames_in (p ∷ ps) = frames_of p + frames_in ps
+
+-- how many frames wait to be put
+abbrev pub frames_waiting : List OutletOf → ℕ
+frames_waiting [] = 0
+frames_waiting (o ∷ os) = frames_in o.waits + frames_waiting os
+
+-- after a call that was lent the bank: as many frames more were exported as wait more, as far as the count goes, and none
+-- was imported
+pub record Exports (waits waits' : ℕ) (bank bank' : BankOf) : Type 0 where
+  pub no_less : waits ≤ waits'
+  pub exported : bank'.exported < 2 ^ 64 - 1 → bank'.exported + waits ≡ bank.exported + waits'
+  pub imported : bank'.imported ≡ bank.imported
 
 -- ---- what may stand in an outlet
 

@@ -8,7 +8,8 @@ use Rattle.hy_job.specs.declared.job.Stage.{Stage}
 use Rattle.hy_job.specs.declared.job.Wire.{Wire}
 use Rattle.hy_job.specs.declared.job.Wire.TheVariants as W
 use Rattle.hy_job.specs.Sound.{activity, arity_of}
-use Rattle.hy_job.specs.Boxes.{StageBox, boxes_of, place_where, task_at}
+use Rattle.hy_job.specs.Boxes.{StageBox, boxes_of, task_at}
+use Rattle.hy_places.specs.Finding.{place_of}
 use Rattle.hy_connect.specs.declared.stage_boxes.Ends.{Ends}
 
 -- a mailbox of the stage, with the tasks that put into it and the one that takes from it
@@ -25,10 +26,6 @@ abbrev pub plans_of : Job → Stage → List BoxPlan
 plans_of job stage = map (plan_of job stage) (boxes_of job stage)
 
 -- ---- by the numbers of an edge's tasks
-
--- the place of an activity in the stage
-abbrev pub place_of : List ℕ → ℕ → ℕ
-place_of activities a = place_where (λ b. nat_eq b a) activities
 
 -- the tasks of an activity have numbers from here on
 abbrev pub first_of : ℕ → List ℕ → ℕ → ℕ

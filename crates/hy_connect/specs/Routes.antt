@@ -7,6 +7,7 @@ use Rattle.hy_job.specs.declared.job.Wire.{Wire}
 use Rattle.hy_job.specs.declared.job.Wire.TheVariants as W
 use Rattle.hy_job.specs.Columns.{Row, part_of}
 use Rattle.hy_job.specs.Runs.{ReceivesOver, sent_over}
+use Rattle.hy_places.specs.Places.{receiver_at}
 use Rattle.hy_connect.specs.declared.route.Route.{Route}
 use Rattle.hy_connect.specs.declared.route.Route.TheVariants as R
 
@@ -41,14 +42,6 @@ fills Opened (R.ByHash columns) = true
 fills _ _ = false
 
 -- ---- laws
-
--- the partition of the receiver in this place, of the task in partition `j`
-abbrev pub receiver_at : Wire → ℕ → ℕ → ℕ
-receiver_at W.OneToOne j k = j
-receiver_at (W.Hash columns) j k = k
-receiver_at W.Broadcast j k = k
-receiver_at W.Gather j k = 0
-receiver_at (W.Merge keys) j k = 0
 
 -- what a writer of the task in partition `j` sends to a place is what the wire sends to that partition
 abbrev pub RoutesAreWires : Type 0

@@ -12,7 +12,7 @@ use Rattle.hy_connect.specs.declared.route.Route.{Route}
 use Rattle.hy_connect.specs.declared.writer.Offer.{Offer}
 use Rattle.hy_connect.specs.declared.writer.Offer.TheVariants as O
 use Rattle.hy_connect.specs.Routes.{RoutesBy, fills, route_of, sent_by}
-use Rattle.hy_connect.specs.Outlets.{OutletOf, IsOutlet, IsSendable, outlet_at, owed_rows, parcel_rows, waiting_rows}
+use Rattle.hy_connect.specs.Outlets.{OutletOf, IsOutlet, IsSendable, frames_of, frames_waiting, outlet_at, owed_rows, parcel_rows, waiting_rows}
 
 pub record WriterOf : Type 0 where
   pub route : Route
@@ -100,6 +100,7 @@ pub record IsNew (wire : Wire) (boxes : List ℕ) (unit arity : ℕ) (w : Writer
   pub mailbox : (k : ℕ) → k < length boxes → (outlet w k).mailbox ≡ slice_index_or boxes k 0
   pub waits : (k : ℕ) → k < length boxes → (outlet w k).waits ≡ []
   pub filling : (k : ℕ) → k < length boxes → (outlet w k).filling ≡ None
+  pub none : frames_waiting w.outlets ≡ 0
   pub state : w.state ≡ Initial
 
 -- it was given these rows: what it may offer now, it might offer before with these rows in front
@@ -139,6 +140,8 @@ pub record SendsOn (old : WriterOf) (k : ℕ) (p : Parcel) (new : WriterOf) : Ty
   pub state : new.state ≡ old.state
   pub first : (outlet old k).waits ≡ p ∷ (outlet new k).waits
   pub others : (j : ℕ) → j ≢ k → outlet new j ≡ outlet old j
+  -- it waits no more
+  pub frames : frames_waiting old.outlets ≡ frames_of p + frames_waiting new.outlets
   -- its frame, where it has one, has rows
   pub sendable : IsSendable old.arity p
   -- what may be offered to that receiver now, might be offered before behind this parcel's rows

@@ -1,7 +1,9 @@
 //! What a writer holds for one of its receivers.
 ghost use Rattle.std.specs.Prelude.{◌≡◌, ◌≢◌, ◌+◌, ◌<◌, ◌≤◌, ◌↔◌, ℕ, [], ◌∷◌, length, None, Some, IfOk, OnOk, OnErr, IsTrue, true, false};
 ghost use Rattle.hy_driver.specs.Rows.{values_of};
-ghost use Rattle.hy_connect.specs.Outlets.{Adds, Cuts, Empties, Extends, Grows, HasFilled, IsOutlet, Lent, Loses, Pops, Sends, closed, emptied, failed, flushed, held_in, posted};
+ghost use Rattle.hy_frame.specs.Row.{row_size};
+ghost use Rattle.hy_connect.specs.Filling.{IsFilledTo, LacksRoom, StaysWithin, StopsWithin};
+ghost use Rattle.hy_connect.specs.Outlets.{Adds, Cuts, Empties, Exports, Extends, Grows, HasFilled, IsOutlet, Lent, Loses, Pops, Sends, closed, emptied, failed, flushed, frames_in, held_in, posted};
 
 use hy_frame::{Append, Bank, Frame, NoMemory, RowBuf};
 use hy_mail::Parcel;
@@ -99,6 +101,7 @@ impl Outlet {
         requires { held_in self.old.filling ≤ bank.old.out }
         ensures outlet { self.new ≡ emptied self.old }
         ensures bank { Lent (held_in self.old.filling) 0 bank.old bank.new }
+        ensures exports { Exports (frames_in self.old.waits) (frames_in self.new.waits) bank.old bank.new }
     {
         let Some(frame) = self.take_filling() else {
             return;
@@ -112,6 +115,7 @@ impl Outlet {
         requires room { held_in self.old.filling ≤ self.old.spare }
         ensures outlet { self.new ≡ flushed self.old }
         ensures bank { Lent (held_in self.old.filling) 0 bank.old bank.new }
+        ensures exports { Exports (frames_in self.old.waits) (frames_in self.new.waits) bank.old bank.new }
     {
         let Some(frame) = self.take_filling() else {
             return;
@@ -125,6 +129,7 @@ impl Outlet {
         requires room { 0 < self.old.spare }
         ensures outlet { self.new ≡ failed self.old }
         ensures bank { Lent (held_in self.old.filling) 0 bank.old bank.new }
+        ensures exports { Exports (frames_in self.old.waits) (frames_in self.new.waits) bank.old bank.new }
     {
         self.give_back(bank);
         self.post(Parcel::Fail);
@@ -136,6 +141,7 @@ impl Outlet {
         requires room { held_in self.old.filling + 1 ≤ self.old.spare }
         ensures outlet { self.new ≡ closed self.old }
         ensures bank { Lent (held_in self.old.filling) 0 bank.old bank.new }
+        ensures exports { Exports (frames_in self.old.waits) (frames_in self.new.waits) bank.old bank.new }
     {
         self.flush(bank);
         self.post(Parcel::Close);
@@ -156,6 +162,7 @@ impl Outlet {
         ensures ok { OnOk result (Sends self.old frame self.new) }
         ensures err { OnErr result (Grows self.old self.new) }
         ensures bank { Lent 1 0 bank.old bank.new }
+        ensures exports { Exports (frames_in self.old.waits) (frames_in self.new.waits) bank.old bank.new }
     {
         if self.reserve().is_err() {
             bank.give(frame);
@@ -170,7 +177,10 @@ impl Outlet {
         requires { held_in self.old.filling ≤ bank.old.out }
         ensures ok { OnOk result ((arity : ℕ) → IsOutlet arity 2 self.old → Empties arity self.old self.new) }
         ensures err { OnErr result ((arity : ℕ) → IsOutlet arity 2 self.old → Loses arity self.old self.new) }
+        ensures none { self.old.filling ≡ None → self.new.waits ≡ self.old.waits }
+        ensures parcels { length self.new.waits ≤ length self.old.waits + 1 }
         ensures bank { Lent (held_in self.old.filling) 0 bank.old bank.new }
+        ensures exports { Exports (frames_in self.old.waits) (frames_in self.new.waits) bank.old bank.new }
     {
         let Some(frame) = self.take_filling() else {
             return Ok(());
@@ -183,6 +193,7 @@ impl Outlet {
         requires { HasFilled (length row.now) self.old.filling }
         ensures yes { result ≡ true → Extends self.old row.now self.new }
         ensures no { result ≡ false → self.new ≡ self.old }
+        ensures full { result ≡ false → LacksRoom self.old.filling (row_size row.now) }
     {
         let Some(frame) = &mut self.filling else {
             return false;
@@ -205,7 +216,11 @@ impl Outlet {
         requires outlet { IsOutlet (length row.now) 2 self.old }
         ensures ok { OnOk result (Adds (length row.now) self.old (values_of row.now ∷ []) self.new) }
         ensures err { OnErr result (Cuts (length row.now) self.old (values_of row.now ∷ []) self.new) }
+        ensures stays { OnOk result (StaysWithin bank.old.unit (row_size row.now) self.old self.new) }
+        ensures stops { OnErr result (StopsWithin bank.old.unit (row_size row.now) self.old self.new) }
+        ensures parcels { length self.new.waits ≤ length self.old.waits + 1 }
         ensures bank { Lent (held_in self.old.filling) (held_in self.new.filling) bank.old bank.new }
+        ensures exports { Exports (frames_in self.old.waits) (frames_in self.new.waits) bank.old bank.new }
     {
         if self.extend(row) {
             return Ok(());
@@ -220,7 +235,10 @@ impl Outlet {
         requires room { bank.old.out < bank.old.limit }
         ensures ok { OnOk result (IsOutlet (length row.now) 2 self.old → Adds (length row.now) self.old (values_of row.now ∷ []) self.new) }
         ensures err { OnErr result (self.new ≡ self.old) }
+        ensures waits { self.new.waits ≡ self.old.waits }
+        ensures filled { OnOk result (row_size row.now + 8 ≤ bank.old.unit → IsFilledTo bank.old.unit (row_size row.now + 4) self.new.filling) }
         ensures bank { Lent 0 (held_in self.new.filling) bank.old bank.new }
+        ensures exports { Exports (frames_in self.old.waits) (frames_in self.new.waits) bank.old bank.new }
     {
         self.filling = Some(first_frame(alloc, bank, row)?);
         Ok(())
@@ -228,12 +246,15 @@ impl Outlet {
 }
 
 /// A frame with this row.
+#[tactic(auto, using(crate::proofs::Filling::one_filled))]
 fn first_frame(alloc: Global, bank: &mut Bank, row: &RowBuf) -> Result<Frame, NoMemory>
     requires { bank.old.out < bank.old.limit }
     ensures arity { IfOk result (λ f. f.arity ≡ length row.now) }
     ensures rows { IfOk result (λ f. f.rows ≡ row.now ∷ []) }
+    ensures filled { IfOk result (λ f. row_size row.now + 8 ≤ bank.old.unit → IsFilledTo bank.old.unit (row_size row.now + 4) (Some f)) }
     ensures ok { OnOk result (Lent 0 1 bank.old bank.new) }
     ensures err { OnErr result (Lent 0 0 bank.old bank.new) }
+    ensures exports { (bank.new.exported ≡ bank.old.exported) × (bank.new.imported ≡ bank.old.imported) }
 {
     let mut frame = bank.take(alloc, row.len(), row.size())?;
     match frame.append(row) {

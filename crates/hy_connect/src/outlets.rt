@@ -1,6 +1,6 @@
 //! What is done to all outlets of a writer.
 ghost use Rattle.std.specs.Prelude.{◌≡◌, ◌≢◌, ◌<◌, ◌≤◌, [], length, IfOk, IfSome, IfNone};
-ghost use Rattle.hy_connect.specs.Outlets.{Lent, closed, failed, held_of, outlet_at, posted};
+ghost use Rattle.hy_connect.specs.Outlets.{Exports, Lent, closed, failed, frames_waiting, held_of, outlet_at, posted};
 ghost use Rattle.hy_connect.specs.Many.{AreFresh, Each, HaveRoom, HaveRoomToo, parcel_of};
 ghost use Rattle.hy_connect.specs.Writers.{NoneWaits};
 
@@ -70,6 +70,7 @@ pub(crate) fn fail_all(outlets: &mut [Outlet], bank: &mut Bank)
     requires held { held_of outlets.old ≤ bank.old.out }
     ensures outlets { Each failed outlets.old outlets.new }
     ensures bank { Lent (held_of outlets.old) (held_of outlets.new) bank.old bank.new }
+    ensures exports { Exports (frames_waiting outlets.old) (frames_waiting outlets.new) bank.old bank.new }
 {
     for k in 0..outlets.len() {
         outlets[k].fail(bank);
@@ -82,6 +83,7 @@ pub(crate) fn close_all(outlets: &mut [Outlet], bank: &mut Bank)
     requires held { held_of outlets.old ≤ bank.old.out }
     ensures outlets { Each closed outlets.old outlets.new }
     ensures bank { Lent (held_of outlets.old) (held_of outlets.new) bank.old bank.new }
+    ensures exports { Exports (frames_waiting outlets.old) (frames_waiting outlets.new) bank.old bank.new }
 {
     for k in 0..outlets.len() {
         outlets[k].close(bank);

@@ -1,13 +1,13 @@
 //! What a merging taker knows of its senders.
 ghost use Rattle.std.specs.Prelude.{◌≡◌, ◌≢◌, ◌+◌, ◌<◌, ◌≤◌, [], length, IfNone, IfOk, IfSome, true, false};
 ghost use Rattle.hy_connect.specs.Outlets.{held_in};
-ghost use Rattle.hy_connect.specs.Sources.{AllClosed, AreBare, AreNew, Brings, HasGiven, IsWanted, Lacks, LetGo, LetsGo, NoneLacks, Returns, TellsLeast, TellsOne, TellsTake, advanced, bare, closing, first_at, first_in, first_of, frames_held, given, hand, is_before, keeping, lesser_of, new_source};
+ghost use Rattle.hy_connect.specs.Sources.{AllClosed, AreBare, AreNew, HasGiven, IsWanted, Lacks, LetGo, LetsGo, NoneLacks, Returns, TellsLeast, TellsOne, TellsTake, advanced, bare, closing, first_at, first_in, first_of, frames_held, given, hand, is_before, keeping, lesser_of, new_source};
 
 use crate::taker::Taken;
 use al_value::{NoMemory, SortKey};
 use hy_frame::{Bank, Frame, RowRef};
 use hy_mail::{Parcel, Port};
-use hy_sort::cmp_rows;
+use hy_rows::cmp_rows;
 use std::alloc::Global;
 use std::marker::Model;
 

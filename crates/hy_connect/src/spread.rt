@@ -1,10 +1,11 @@
 //! How the rows of a frame go to the receivers of a writer.
 ghost use Rattle.std.specs.Prelude.{◌≡◌, ◌≢◌, ◌+◌, ◌<◌, ◌≤◌, ℕ, [], ◌∷◌, length, map, None, All, IfOk, OnOk, OnErr};
 ghost use Rattle.hy_driver.specs.Rows.{values_of};
-ghost use Rattle.hy_frame.specs.Row.{IsRow};
+ghost use Rattle.hy_frame.specs.Row.{IsRow, row_size};
+ghost use Rattle.hy_connect.specs.Filling.{AllStay, AllStop};
 ghost use Rattle.hy_connect.specs.declared.route.Route.TheVariants.{Whole, ByHash as Hashed};
-ghost use Rattle.hy_connect.specs.Outlets.{Grows, Lent, Sends, held_of};
-ghost use Rattle.hy_connect.specs.Many.{AreOutlets, FillNone, FrontAdds, Rips, RipsTo, Spreads, SpreadsTo};
+ghost use Rattle.hy_connect.specs.Outlets.{Exports, Grows, Lent, Sends, frames_in, frames_waiting, held_of};
+ghost use Rattle.hy_connect.specs.Many.{AreOutlets, FillNone, FrontAdds, MoreWait, Rips, RipsTo, Spreads, SpreadsTo};
 
 use crate::outlet::Outlet;
 use crate::route::part;
@@ -18,6 +19,7 @@ fn copy_of(alloc: Global, bank: &mut Bank, frame: &Frame) -> Result<Frame, NoMem
     ensures copy { IfOk result (λ f. f ≡ frame.now) }
     ensures ok { OnOk result (Lent 0 1 bank.old bank.new) }
     ensures err { OnErr result (Lent 0 0 bank.old bank.new) }
+    ensures exports { (bank.new.exported ≡ bank.old.exported) × (bank.new.imported ≡ bank.old.imported) }
 {
     let mut copy = bank.take(alloc, frame.arity(), 0)?;
     match copy.copy_from(frame) {
@@ -41,6 +43,7 @@ fn send_copy(
     ensures ok { OnOk result (Sends outlet.old frame.now outlet.new) }
     ensures err { OnErr result (Grows outlet.old outlet.new) }
     ensures bank { Lent 0 0 bank.old bank.new }
+    ensures exports { Exports (frames_in outlet.old.waits) (frames_in outlet.new.waits) bank.old bank.new }
 {
     let copy = copy_of(alloc, bank, frame)?;
     outlet.send(bank, copy)
@@ -63,7 +66,9 @@ fn send_copies(
     ensures ok { OnOk result (FrontAdds frame.now.arity last outlets.old (map values_of frame.now.rows) outlets.new) }
     ensures err { OnErr result (Rips Whole frame.now.arity outlets.old (map values_of frame.now.rows) outlets.new) }
     ensures none { FillNone outlets.new }
+    ensures parcels { MoreWait 1 outlets.old outlets.new }
     ensures bank { Lent 0 0 bank.old bank.new }
+    ensures exports { Exports (frames_waiting outlets.old) (frames_waiting outlets.new) bank.old bank.new }
 {
     for k in 0..last {
         send_copy(alloc, &mut outlets[k], bank, frame)?;
@@ -88,7 +93,9 @@ pub(crate) fn spread_whole(
     ensures ok { OnOk result (Spreads Whole frame.arity outlets.old (map values_of frame.rows) outlets.new) }
     ensures err { OnErr result (Rips Whole frame.arity outlets.old (map values_of frame.rows) outlets.new) }
     ensures none { FillNone outlets.new }
+    ensures parcels { MoreWait 1 outlets.old outlets.new }
     ensures bank { Lent 1 0 bank.old bank.new }
+    ensures exports { Exports (frames_waiting outlets.old) (frames_waiting outlets.new) bank.old bank.new }
 {
     if frame.rows() == 0 {
         bank.give(frame);
@@ -120,13 +127,18 @@ fn spread_row(
     requires room { bank.old.out + length outlets.old ≤ bank.old.limit + held_of outlets.old }
     ensures ok { OnOk result (SpreadsTo k (length row.now) outlets.old (values_of row.now) outlets.new) }
     ensures err { OnErr result (RipsTo k (length row.now) outlets.old (values_of row.now) outlets.new) }
+    ensures stays { OnOk result (AllStay bank.old.unit (row_size row.now) outlets.old outlets.new) }
+    ensures stops { OnErr result (AllStop bank.old.unit (row_size row.now) outlets.old outlets.new) }
+    ensures parcels { MoreWait 1 outlets.old outlets.new }
     ensures bank { Lent (held_of outlets.old) (held_of outlets.new) bank.old bank.new }
+    ensures exports { Exports (frames_waiting outlets.old) (frames_waiting outlets.new) bank.old bank.new }
 {
     buffer.copy_from(row)?;
     outlets[k].append(alloc, bank, buffer)
 }
 
 /// Adds each row of a frame to what is filled for the receiver that the row's hash names.
+#[tactic(auto, using(crate::proofs::Filling::within_first))]
 pub(crate) fn spread_by_hash(
     alloc: Global,
     outlets: &mut [Outlet],
@@ -138,13 +150,18 @@ pub(crate) fn spread_by_hash(
     requires some { 0 < length outlets.old }
     requires columns { All (λ j. j < frame.now.arity) columns.now }
     requires few { frame.now.arity ≤ 1024 }
+    requires unit { frame.now.unit ≡ bank.old.unit }
     requires outlets { AreOutlets frame.now.arity outlets.old }
     requires held { held_of outlets.old ≤ bank.old.out }
     requires room { bank.old.out + length outlets.old ≤ bank.old.limit + held_of outlets.old }
     ensures ok { OnOk result (Spreads (Hashed columns.now) frame.now.arity outlets.old (map values_of frame.now.rows) outlets.new) }
     ensures err { OnErr result (Rips (Hashed columns.now) frame.now.arity outlets.old (map values_of frame.now.rows) outlets.new) }
+    ensures parcels { MoreWait 1 outlets.old outlets.new }
     ensures bank { Lent (held_of outlets.old) (held_of outlets.new) bank.old bank.new }
+    ensures exports { Exports (frames_waiting outlets.old) (frames_waiting outlets.new) bank.old bank.new }
 {
+    // What a frame's bytes are tells that its rows take no more than a frame of the bank, or are one alone.
+    let _bytes = frame.bytes();
     for i in 0..frame.rows() {
         let row = frame.row(i);
         let k = part(columns, outlets.len(), &row);

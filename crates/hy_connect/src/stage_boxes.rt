@@ -8,6 +8,7 @@ ghost use Rattle.hy_connect.specs.Plans as spec;
 use al_value::{List, NoMemory};
 use hy_job::{Activity, Edge, Job, Stage, Wire};
 use hy_mail::BoxPlan;
+use hy_places::{is_among, place_of};
 use std::alloc::Global;
 
 /// An edge, by the numbers of its tasks: how many partitions there are, the number of the first task of each side,
@@ -51,31 +52,6 @@ fn push_edge(
         return Ok(());
     }
     push_receivers(alloc, ends_of(job, stage, edge), &edge.wire, plans)
-}
-
-/// Whether the activity is one of these.
-fn is_among(activities: &[u32], activity: u32) -> bool
-    ensures { result ≡ list_any (λ a. nat_eq a activity) activities.now }
-{
-    for a in activities {
-        if *a == activity {
-            return true;
-        }
-    }
-    false
-}
-
-/// The place of an activity among these, or their number where it is not there.
-fn place_of(activities: &[u32], activity: u32) -> usize
-    ensures place { result ≡ spec.place_of activities.now activity }
-    ensures within { result ≤ length activities.now }
-{
-    for (place, a) in activities.iter().enumerate() {
-        if *a == activity {
-            return place;
-        }
-    }
-    activities.len()
 }
 
 /// The number of the first task of an activity.

@@ -1,12 +1,13 @@
 //! What a task writes through.
 ghost use Rattle.std.specs.Prelude.{◌≡◌, ◌≢◌, ◌⊎◌, ◌+◌, ◌<◌, ◌≤◌, ℕ, [], length, map, true, false, IfOk};
 ghost use Rattle.hy_driver.specs.Rows.{values_of};
-ghost use Rattle.hy_connect.specs.Outlets.{Pops, closed, failed, held_of, posted};
+ghost use Rattle.hy_connect.specs.Outlets.{Exports, Pops, closed, failed, frames_waiting, held_of, posted};
 ghost use Rattle.hy_connect.specs.Routes.{HasColumns};
 ghost use Rattle.hy_connect.specs.Writers.{AddsParcels, Fails, IsAsFar, IsIdle, IsNew, MayPut, TellsOffer, TellsWritten, Writes, outlet, receivers};
 ghost use Rattle.hy_mail.specs.Events.{Full, Put};
 ghost use Rattle.hy_mail.specs.declared.parcel.Parcel.{Parcel};
-ghost use Rattle.hy_connect.specs.Many.{AreDifferent, Each};
+ghost use Rattle.hy_connect.specs.Many.{Each};
+ghost use Rattle.hy_places.specs.Places.{AreDifferent};
 
 use crate::outlet::Outlet;
 use crate::outlets::{Mark, close_all, fail_all, make_outlets, next_waiting, post_all};
@@ -55,6 +56,7 @@ impl Model for WireWriter {
 impl WireWriter {
     /// A writer over this wire, whose receivers have these mailboxes, in their order. Its rows have so many fields,
     /// and its frames this size.
+    #[tactic(auto, using(crate::proofs::Exporting::fresh_waiting))]
     pub fn new(
         alloc: Global,
         wire: &Wire,
@@ -155,6 +157,7 @@ impl FrameWriter for WireWriter {
         ensures told { Writes self.old [] self.new }
         ensures parcels { AddsParcels 1 self.old self.new }
         ensures posts { Each (posted Parcel.Open) self.old.outlets self.new.outlets }
+        ensures waiting { frames_waiting self.new.outlets ≡ frames_waiting self.old.outlets }
     {
         post_all(&mut self.outlets, Mark::Open);
         self.state = WriterState::Opened;
@@ -169,9 +172,11 @@ impl FrameWriter for WireWriter {
         requires out { held_of self.old.outlets + 1 ≤ bank.old.out }
         ensures opened { self.new.state ≡ WriterState.Opened }
         ensures out { bank.new.out + (held_of self.old.outlets + 1) ≡ bank.old.out + held_of self.new.outlets }
+        ensures parcels { AddsParcels 1 self.old self.new }
         ensures bank { (bank.new.unit ≡ bank.old.unit) × (bank.new.limit ≡ bank.old.limit) }
         ensures made { (self.new.arity ≡ self.old.arity) × (self.new.unit ≡ self.old.unit) × (length self.new.outlets ≡ length self.old.outlets) }
         ensures told { TellsWritten self.old (map values_of frame.rows) self.new result }
+        ensures exports { Exports (frames_waiting self.old.outlets) (frames_waiting self.new.outlets) bank.old bank.new }
     {
         match &self.route {
             Route::Whole => spread_whole(self.alloc, &mut self.outlets, bank, frame),
@@ -202,6 +207,7 @@ impl FrameWriter for WireWriter {
         ensures bank { (bank.new.unit ≡ bank.old.unit) × (bank.new.limit ≡ bank.old.limit) }
         ensures made { (self.new.arity ≡ self.old.arity) × (self.new.unit ≡ self.old.unit) × (length self.new.outlets ≡ length self.old.outlets) }
         ensures told { Fails self.old self.new }
+        ensures exports { Exports (frames_waiting self.old.outlets) (frames_waiting self.new.outlets) bank.old bank.new }
         ensures parcels { AddsParcels 1 self.old self.new }
         ensures posts { Each failed self.old.outlets self.new.outlets }
     {
@@ -220,6 +226,7 @@ impl FrameWriter for WireWriter {
         ensures bank { (bank.new.unit ≡ bank.old.unit) × (bank.new.limit ≡ bank.old.limit) }
         ensures told { Writes self.old [] self.new }
         ensures parcels { AddsParcels 2 self.old self.new }
+        ensures exports { Exports (frames_waiting self.old.outlets) (frames_waiting self.new.outlets) bank.old bank.new }
         ensures posts { Each closed self.old.outlets self.new.outlets }
         ensures ends { self.old.state ≡ WriterState.Failed → Each (posted Parcel.Close) self.old.outlets self.new.outlets }
     {

@@ -9,5 +9,5 @@ mod wires;
 
 pub use boxes::{edge_from, edge_into, inboxes, outboxes};
 pub use laws::{place_cases, place_laws};
-pub use stage::{number_of, stage_of};
+pub use stage::{is_among, number_of, place_of, stage_of};
 pub use wires::senders_count;

@@ -39,7 +39,7 @@ fn the_one_with<'a>(stages: &'a [Stage], activity: u32) -> &'a Stage
 }
 
 /// Whether the activity is one of these.
-pub(crate) fn is_among(activities: &[u32], activity: u32) -> bool
+pub fn is_among(activities: &[u32], activity: u32) -> bool
     ensures { result ≡ list_any (λ a. nat_eq a activity) activities.now }
 {
     for a in activities {
@@ -63,7 +63,7 @@ pub fn number_of(job: &Job, stage: &Stage, activity: u32, partition: u32) -> u32
 }
 
 /// The place of an activity among these, or their number where it is not there.
-fn place_of(activities: &[u32], activity: u32) -> usize
+pub fn place_of(activities: &[u32], activity: u32) -> usize
     ensures place { result ≡ spec.place_of activities.now activity }
     ensures within { result ≤ length activities.now }
 {

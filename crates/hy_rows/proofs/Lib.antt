@@ -4,3 +4,4 @@ pub mod Sorting
 pub mod Received
 pub mod Cases
 pub mod Keys
+pub mod FieldOrder

@@ -11,7 +11,7 @@ use hy_frame::{MAX_FIELDS, RowBuf, RowRef};
 use std::alloc::Global;
 
 /// The field of NULL.
-const NULL_FIELD: [u8; 1] = [0];
+pub(crate) const NULL_FIELD: [u8; 1] = [0];
 
 /// The value of a field.
 #[tactic(auto, using(crate::proofs::RowLaws::row_laws))]

@@ -1,4 +1,3 @@
-pub mod FieldOrder
 pub mod Building
 pub mod Emitting
 pub mod HandingOn

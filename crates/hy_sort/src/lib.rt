@@ -9,4 +9,3 @@ mod order;
 pub use build::SortBuild;
 pub use emit::SortEmit;
 pub use laws::{sort_cases, sort_laws};
-pub use order::cmp_rows;

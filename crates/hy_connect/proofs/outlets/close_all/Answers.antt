@@ -1,5 +1,6 @@
 use Rattle.std.proofs.Common.{◌≡◌, ◌<◌, ◌≤◌, length, ap, ◌∙◌, arith}
 use Rattle.hy_connect.specs.Outlets.{OutletOf, closed, held_in, held_of, outlet_at}
+use Rattle.hy_connect.proofs.Exporting.{exports_at, exports_then}
 use Rattle.hy_connect.proofs.Fronts.{front_more, read_at}
 use Rattle.hy_connect.proofs.Held.{held_here, lent_at, lent_then}
 use Rattle.hy_connect.proofs.Writing.{flushed_none}
@@ -20,4 +21,5 @@ loop-k-preserved c =
     let none : held_in c.close.new.self.filling ≡ 0 = ap (λ (o : OutletOf). held_in o.filling) is ∙ ap held_in (flushed_none was.filling was) in (
       front_more closed c.loop-k.k c.args.outlets.now c.loop-k.outlets c.close.new.self low c.loop-k.invariant.0 is,
       lent_then _ _ _ _ _ _ c.loop-k.invariant.1 (lent_at c.loop-k.outlets c.loop-k.k 0 c.index-outlets-k.result c.close.new.self c.loop-k.bank c.close.new.bank low none c.close.ensures.bank),
+      exports_then _ _ _ c.args.bank.now c.loop-k.bank c.close.new.bank c.loop-k.invariant.2 (exports_at c.loop-k.outlets c.loop-k.k c.index-outlets-k.result c.close.new.self c.loop-k.bank c.close.new.bank low c.close.ensures.exports),
     )

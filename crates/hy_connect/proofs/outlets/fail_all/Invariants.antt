@@ -1,6 +1,6 @@
-use Rattle.hy_connect.specs.Outlets.{Lent, failed, held_of}
+use Rattle.hy_connect.specs.Outlets.{Exports, Lent, failed, frames_waiting, held_of}
 use Rattle.hy_connect.specs.Many.{Front}
 use Rattle.hy_connect.proofs.outlets.fail_all.Given as goal
 
 abbrev pub invariant-loop-k : goal.invariant-loop-k
-invariant-loop-k l = Front failed l.k l.initial.outlets l.outlets × Lent (held_of l.initial.outlets) (held_of l.outlets) l.initial.bank l.bank
+invariant-loop-k l = Front failed l.k l.initial.outlets l.outlets × Lent (held_of l.initial.outlets) (held_of l.outlets) l.initial.bank l.bank × Exports (frames_waiting l.initial.outlets) (frames_waiting l.outlets) l.initial.bank l.bank

@@ -1,13 +1,17 @@
 use Rattle.std.proofs.Common.{[], ◌∷◌, length, get_or, subst, refl, sym}
 use Rattle.std.proofs.lemmas.Result.{on_err_weaker, on_ok_weaker}
 use Rattle.hy_driver.specs.Rows.{values_of}
-use Rattle.hy_frame.specs.Row.{Fields}
+use Rattle.hy_frame.specs.Row.{Fields, row_size}
+use Rattle.hy_connect.specs.Filling.{StaysWithin, StopsWithin}
+use Rattle.hy_connect.proofs.Filling.{all_stay, all_stop, none_stop}
 use Rattle.hy_connect.specs.declared.route.Route.TheVariants.{ByHash}
 use Rattle.hy_connect.specs.Outlets.{OutletOf, Adds, Cuts, IsOutlet}
 use Rattle.hy_connect.proofs.Adding.{err_given}
+use Rattle.hy_connect.proofs.Exporting.{exports_at}
 use Rattle.hy_connect.proofs.Fronts.{read_at}
 use Rattle.hy_connect.proofs.Held.{held_here, lent_at, room_here}
 use Rattle.hy_connect.proofs.Spreading.{rips_none, row_rips, row_spreads}
+use Rattle.hy_connect.proofs.Waiting.{none_wait, waits_set}
 use Rattle.hy_connect.proofs.spread.spread_row.Goals as goal
 
 pub returns-in_err-copy_from-clause-err : goal.returns-in_err-copy_from-clause-err
@@ -41,3 +45,27 @@ returns-clause-err c = on_err_weaker c.append.result
 
 pub returns-clause-bank : goal.returns-clause-bank
 returns-clause-bank c = lent_at c.args.outlets.now c.args.k _ c.index-outlets-k.result c.append.new.self c.args.bank.now c.append.new.bank c.requires.there refl c.append.ensures.bank
+
+pub returns-in_err-copy_from-clause-parcels : goal.returns-in_err-copy_from-clause-parcels
+returns-in_err-copy_from-clause-parcels c = none_wait 1 c.args.outlets.now
+
+pub returns-clause-parcels : goal.returns-clause-parcels
+returns-clause-parcels c = waits_set 1 c.args.outlets.now c.args.k c.index-outlets-k.result c.append.new.self c.requires.there c.append.ensures.parcels
+
+pub returns-clause-exports : goal.returns-clause-exports
+returns-clause-exports c = exports_at c.args.outlets.now c.args.k c.index-outlets-k.result c.append.new.self c.args.bank.now c.append.new.bank c.requires.there c.append.ensures.exports
+
+pub returns-clause-stays : goal.returns-clause-stays
+returns-clause-stays c = on_ok_weaker c.append.result
+    (λ s. all_stay c.args.bank.now.unit (row_size c.args.row.now) c.args.outlets.now c.args.k c.index-outlets-k.result c.append.new.self c.requires.there
+    (subst (λ (r : Fields). StaysWithin c.args.bank.now.unit (row_size r) (get_or c.args.outlets.now c.args.k c.index-outlets-k.result) c.append.new.self) c.in_ok-copy_from.ensures.ok s))
+    c.append.ensures.stays
+
+pub returns-clause-stops : goal.returns-clause-stops
+returns-clause-stops c = on_err_weaker c.append.result
+    (λ s. all_stop c.args.bank.now.unit (row_size c.args.row.now) c.args.outlets.now c.args.k c.index-outlets-k.result c.append.new.self c.requires.there
+    (subst (λ (r : Fields). StopsWithin c.args.bank.now.unit (row_size r) (get_or c.args.outlets.now c.args.k c.index-outlets-k.result) c.append.new.self) c.in_ok-copy_from.ensures.ok s))
+    c.append.ensures.stops
+
+pub returns-in_err-copy_from-clause-stops : goal.returns-in_err-copy_from-clause-stops
+returns-in_err-copy_from-clause-stops c = err_given c.from_residual.result (none_stop c.args.bank.now.unit (row_size c.args.row.now) c.args.outlets.now)

@@ -1,0 +1,7 @@
+use Rattle.std.proofs.Common.{refl}
+use Rattle.hy_mail.specs.declared.parcel.Parcel.TheVariants as P
+use Rattle.hy_connect.proofs.Exporting.{mark_exports}
+use Rattle.hy_connect.proofs.outlet.Outlet.fail.Goals as goal
+
+pub returns-clause-exports : goal.returns-clause-exports
+returns-clause-exports c = mark_exports P.Fail _ c.give_back.new.self c.post.new.self c.args.bank.now c.give_back.new.bank refl c.post.ensures c.give_back.ensures.exports

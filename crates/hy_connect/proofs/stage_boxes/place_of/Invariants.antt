@@ -1,6 +1,0 @@
-use Rattle.std.proofs.Common.{◌≡◌, ◌+◌, drop}
-use Rattle.hy_connect.specs.Plans.{place_of}
-use Rattle.hy_connect.proofs.stage_boxes.place_of.Given as goal
-
-abbrev pub invariant-loop-place : goal.invariant-loop-place
-invariant-loop-place l = place_of l.activities l.activity ≡ l.place + place_of (drop l.place l.activities) l.activity
