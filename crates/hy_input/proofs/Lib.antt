@@ -1,0 +1,5 @@
+pub mod Hands
+pub mod Taking
+pub mod Merging
+pub mod Mixing
+pub mod Bringing
