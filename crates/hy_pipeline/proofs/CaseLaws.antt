@@ -1,5 +1,5 @@
 -- The worked cases.
-use Rattle.std.proofs.Common.{◌≡◌, ◌<◌, ℕ, zero, suc, List, [], ◌∷◌, ◌++◌, map, refl, ap, ◌∙◌, arith}
+use Rattle.std.proofs.Common.{◌≡◌, ◌<◌, ℕ, zero, suc, List, [], ◌∷◌, refl, ap, ◌∙◌, arith}
 use Rattle.hy_rest.specs.Words.{Close}
 use Rattle.hy_job.specs.Settled.{Take}
 use Rattle.hy_mail.specs.declared.parcel.Parcel.TheVariants as P

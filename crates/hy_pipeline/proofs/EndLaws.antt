@@ -1,5 +1,5 @@
 -- The parts of a task at its beginning, before its end and at it.
-use Rattle.std.proofs.Common.{◌≡◌, ◌<◌, ◌⊎◌, inl, inr, ℕ, nat_eq, Bool, true, false, List, [], ◌∷◌, ◌++◌, refl, ap, sym, subst, ◌∙◌, append-nil, arith}
+use Rattle.std.proofs.Common.{◌≡◌, ◌<◌, ◌⊎◌, inl, inr, ℕ, nat_eq, true, false, List, [], ◌∷◌, ◌++◌, refl, ap, sym, subst, ◌∙◌, arith}
 use Rattle.std.specs.List.{AllByRecursion, flat_map}
 use Rattle.hy_job.specs.declared.job.Edge.{Edge}
 use Rattle.hy_job.specs.declared.job.Wire.{Wire}
@@ -11,7 +11,6 @@ use Rattle.hy_job.specs.Sound.{edges_from}
 use Rattle.hy_job.proofs.Boxes.{is_nat}
 use Rattle.hy_job.proofs.Members.{by_cases, nat_same, no_bool}
 use Rattle.hy_places.specs.Places.{receiver_at, receivers_count}
-use Rattle.hy_driver.specs.Rows.{Fed}
 use Rattle.hy_connect.specs.declared.route.Route.{Route}
 use Rattle.hy_connect.specs.declared.route.Route.TheVariants as ByRoute
 use Rattle.hy_connect.specs.Routes.{route_of, sent_by}
@@ -21,7 +20,6 @@ use Rattle.hy_output.specs.declared.way.Way.{Way}
 use Rattle.hy_output.specs.declared.way.Way.TheVariants as W
 use Rattle.hy_output.specs.Keeper.{frame_rows, kept_rows}
 use Rattle.hy_output.specs.Ways.{offers, places}
-use Rattle.hy_output.specs.Outputs.{packed}
 use Rattle.hy_pipeline.specs.Pipeline.{AreApart, OffersTo, PipelineOf, keeps_on}
 use Rattle.hy_pipeline.specs.Laws.{EndedRests, IsNewWay, IsNewWriter, Leaves, LivingAreAlive, NewAreNew, OwesNothing, TakesMore}
 use Rattle.hy_pipeline.proofs.StepLaws.{found, no_more}

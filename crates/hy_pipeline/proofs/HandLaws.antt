@@ -1,6 +1,6 @@
 -- What an input brings are the rows at hand and those that come.
-use Rattle.std.proofs.Common.{◌≡◌, ◌<◌, ◌≤◌, ◌+◌, inl, inr, ℕ, zero, suc, nat_eq, Bool, true, false, ◌&&◌, Option, Some, None, List, [], ◌∷◌, ◌++◌, map, flat_map, length, refl, ap, sym, subst, ◌∙◌, append_assoc, append-nil, arith}
-use Rattle.std.specs.List.{All, AllByRecursion, range_with_len}
+use Rattle.std.proofs.Common.{◌≡◌, ◌<◌, ◌≤◌, ◌+◌, inl, inr, ℕ, zero, suc, nat_eq, true, false, List, [], ◌∷◌, ◌++◌, map, flat_map, length, refl, ap, sym, subst, ◌∙◌, append_assoc, arith}
+use Rattle.std.specs.List.{AllByRecursion, range_with_len}
 use Rattle.std.specs.List.Sorted.{IsPermutation}
 use Rattle.std.proofs.lemmas.Bool.{cases_lt}
 use Rattle.std.proofs.lemmas.List.Elements.{recursion_from_All}
@@ -14,7 +14,7 @@ use Rattle.hy_connect.specs.Sources.{SourceOf, hand as hand_of, source_at}
 use Rattle.hy_connect.specs.Merges.{MergerOf, may_give, rows_from, senders, source}
 use Rattle.hy_input.specs.declared.taker.Taker.{Taker}
 use Rattle.hy_input.specs.declared.taker.Taker.TheVariants as T
-use Rattle.hy_input.specs.Inputs.{InputOf, brings, brings_by, hand, only_at}
+use Rattle.hy_input.specs.Inputs.{brings_by, hand, only_at}
 use Rattle.hy_pipeline.specs.Tests.{BroughtAreRows, hands_by}
 use Rattle.hy_pipeline.proofs.StepLaws.{differ}
 

@@ -4,3 +4,4 @@ pub mod CaseLaws
 pub mod TaskLaws
 pub mod HandLaws
 pub mod TestLaws
+pub mod DoneLaws

@@ -1,5 +1,5 @@
 -- Single calls as steps of a task's parts.
-use Rattle.std.proofs.Common.{◌≡◌, ◌≢◌, ◌<◌, ◌≤◌, ◌⊎◌, inl, inr, ℕ, zero, suc, nat_eq, Bool, true, false, List, [], ◌∷◌, ◌++◌, map, refl, ap, sym, subst, ◌∙◌, append_assoc, append-nil, arith}
+use Rattle.std.proofs.Common.{◌≡◌, ◌≢◌, ◌<◌, ◌⊎◌, inl, inr, ℕ, zero, suc, nat_eq, false, List, [], ◌∷◌, ◌++◌, map, refl, ap, sym, subst, ◌∙◌, append_assoc, append-nil, arith}
 use Rattle.std.specs.List.{flat_map}
 use Rattle.std.proofs.lemmas.Bool.{cases_lt}
 use Rattle.hy_frame.specs.Frame.{FrameOf}
@@ -7,11 +7,8 @@ use Rattle.hy_frame.specs.Row.{Fields}
 use Rattle.hy_frame.specs.declared.writer.WriterState.{WriterState}
 use Rattle.hy_frame.specs.declared.writer.WriterState.TheVariants.{Initial, Opened, Failed, Closed}
 use Rattle.hy_rest.specs.Rest.{Continues}
-use Rattle.hy_rest.specs.Words.{Signal, put_rows}
-use Rattle.hy_job.specs.declared.job.Activity.{Activity}
-use Rattle.hy_job.specs.declared.job.Job.{Job}
-use Rattle.hy_job.specs.Drivers.{received_of}
-use Rattle.hy_job.specs.Runs.{Taken, rows_at}
+use Rattle.hy_rest.specs.Words.{put_rows}
+use Rattle.hy_job.specs.Runs.{Taken}
 use Rattle.hy_job.specs.Settled.{taken_rows}
 use Rattle.hy_job.proofs.Boxes.{is_nat, nat_is}
 use Rattle.hy_job.proofs.Members.{by_cases, no_bool}
@@ -29,7 +26,7 @@ use Rattle.hy_output.specs.Outputs.{packed}
 use Rattle.hy_input.specs.declared.taker.Taker.{Taker}
 use Rattle.hy_input.specs.declared.taker.Taker.TheVariants as T
 use Rattle.hy_input.specs.Inputs.{InputOf, brings, brings_by, given, hand, only_at}
-use Rattle.hy_pipeline.specs.Pipeline.{AreApart, OffersTo, PipelineOf, keeps_on, parts_of, put_for, signal_of, take_of, waits_in}
+use Rattle.hy_pipeline.specs.Pipeline.{AreApart, OffersTo, PipelineOf, keeps_on, put_for, signal_of, take_of, waits_in}
 use Rattle.hy_pipeline.specs.Laws.{ComeIsStep, EndedIsStep, FedIsStep, FinishIsStep, OpenIsStep, PutIsStep, TakesParcel, TurnIsStep, WaitingIsFront}
 
 -- ---- nothing happens

@@ -5,29 +5,26 @@ use Rattle.std.specs.List.Sorted.{IsPermutation}
 use Rattle.std.proofs.lemmas.Bool.{cases_lt}
 use Rattle.std.proofs.lemmas.List.Elements.{All-cons, All-nil}
 use Rattle.std.proofs.lemmas.List.Sorted.{IsPermutation-refl}
-use Rattle.hy_frame.specs.declared.writer.WriterState.{WriterState}
 use Rattle.hy_rest.specs.Words as S
 use Rattle.hy_rest.specs.Words.{Signal, is_close, is_fail, put_rows}
 use Rattle.hy_job.specs.declared.job.Activity.{Activity}
 use Rattle.hy_job.specs.declared.job.Job.{Job}
-use Rattle.hy_job.specs.Runs.{Put}
 use Rattle.hy_job.specs.Settled.{Outcome, Take, has_closed}
 use Rattle.hy_job.proofs.Boxes.{is_nat, nat_is}
 use Rattle.hy_job.proofs.Members.{by_cases, no_bool}
-use Rattle.hy_job.proofs.RunRows.{all_append}
 use Rattle.hy_mail.specs.declared.parcel.Parcel.{Parcel}
 use Rattle.hy_mail.specs.declared.parcel.Parcel.TheVariants as P
 use Rattle.hy_driver.specs.Rows.{Row}
 use Rattle.hy_output.specs.declared.way.Way.{Way}
 use Rattle.hy_output.specs.Ways.{SendsOn, places, state_of, waiting}
-use Rattle.hy_input.specs.Inputs.{Closes, InputOf, closed_at}
+use Rattle.hy_input.specs.Inputs.{closed_at}
 use Rattle.hy_course.specs.Task.{Advances, Breaks, Deed, Goes, Looks, Puts, Raises, TaskOf, Takes, Work}
 use Rattle.hy_course.specs.Parts.{PartsOf}
 use Rattle.hy_course.proofs.ListLaws.{passed_none}
 use Rattle.hy_course.proofs.PartLaws.{parts_continue}
 use Rattle.hy_pipeline.specs.Pipeline.{AreApart, PipelineOf, nothing, parts_of, put_for, signal_of, take_of, waits_for, waits_in}
-use Rattle.hy_pipeline.specs.Laws.{Comes, TakesParcel}
-use Rattle.hy_pipeline.specs.Tasks.{BreaksOff, ClosesBy, FailMoves, FailedTakeMoves, FaultMoves, GoesOn, LookMoves, MayPut, PutMoves, PutsOut, RaiseMoves, SightMoves, TakeMoves, TaskSeen, WorkMoves, closed_of, lacks, owes, task_of}
+use Rattle.hy_pipeline.specs.Laws.{TakesParcel}
+use Rattle.hy_pipeline.specs.Tasks.{BreaksOff, ClosesBy, FailMoves, FailedTakeMoves, FaultMoves, StepsOn, LookMoves, MayPut, PutMoves, PutsOut, RaiseMoves, SightMoves, TakeMoves, TaskSeen, WorkMoves, closed_of, lacks, owes, task_of}
 use Rattle.hy_pipeline.proofs.StepLaws.{come_is_step, differ, places_stay, put_is_step}
 
 -- ---- what steps have in common
@@ -36,7 +33,7 @@ by_failure : (job : Job) (a : Activity) (j : ℕ) (o n : TaskOf) (deed : Deed) (
 by_failure job a j o n deed f g was is h = subst (λ x. Goes job a j o deed n x n.failure) (sym was) (subst (λ x. Goes job a j o deed n f x) (sym is) h)
 
 module _ (job : Job) (a : Activity) (j : ℕ) (at : ℕ → ℕ) (old new : TaskSeen) where
-  advances : (took : List Take) (sent : ℕ → List (Signal Row)) → GoesOn job a j at old took sent new → All (λ t. is_fail t.signal ≡ false) took → ((r : ℕ) → All (λ s. is_fail s ≡ false) (sent r))
+  advances : (took : List Take) (sent : ℕ → List (Signal Row)) → StepsOn job a j at old took sent new → All (λ t. is_fail t.signal ≡ false) took → ((r : ℕ) → All (λ s. is_fail s ≡ false) (sent r))
       → Advances job a j (task_of job a at old) took sent (task_of job a at new)
   advances took sent h takes puts = record {
     sound = h.sound;
@@ -185,7 +182,7 @@ comes_closes k p P.Close x y h = h
 
 pub take_moves : (old new : TaskSeen) → TakeMoves old new
 take_moves old new job a j at k p parcel h =
-    let on : GoesOn job a j at old (take_of k p parcel) nothing new = record {
+    let on : StepsOn job a j at old (take_of k p parcel) nothing new = record {
       was = h.was;
       is = h.is;
       sound = h.sound;
@@ -268,7 +265,7 @@ put_no_fail receiver parcel r h = by_cases (nat_eq r receiver) (λ t. rw t (one_
 module _ (job : Job) (a : Activity) (j : ℕ) (at : ℕ → ℕ) (k : ℕ) (parcel : Parcel) (old new : TaskSeen) (h : PutsOut job a j at k parcel old new) where
   put_goes : (f : Option Outcome) → old.failure ≡ f → Goes job a j (task_of job a at old) (Puts (at k) (signal_of parcel)) (task_of job a at new) f f
   put_goes None e =
-      let on : GoesOn job a j at old [] (put_for (at k) parcel) new = record {
+      let on : StepsOn job a j at old [] (put_for (at k) parcel) new = record {
         was = e;
         is = h.outcome ∙ e;
         sound = h.sound;

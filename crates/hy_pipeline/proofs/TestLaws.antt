@@ -1,23 +1,22 @@
 -- Which rows of a check are still to be tested after a step.
-use Rattle.std.proofs.Common.{◌≡◌, ℕ, true, Option, Some, None, List, [], ◌∷◌, ◌++◌, map, refl, ap, sym, subst, ◌∙◌, append_assoc, append-nil}
-use Rattle.std.specs.List.{All, AllByRecursion}
+use Rattle.std.proofs.Common.{◌≡◌, true, Option, List, [], ◌∷◌, ◌++◌, ap, sym, subst, ◌∙◌, append_assoc, append-nil}
 use Rattle.std.specs.List.Sorted.{IsPermutation}
 use Rattle.std.proofs.lemmas.List.Elements.{All-from_recursion}
-use Rattle.std.proofs.lemmas.List.Sorted.{IsPermutation-append_right, IsPermutation-cons, IsPermutation-refl, IsPermutation-sym, IsPermutation-trans}
+use Rattle.std.proofs.lemmas.List.Sorted.{IsPermutation-append_right, IsPermutation-cons, IsPermutation-sym, IsPermutation-trans}
 use Rattle.hy_job.specs.declared.job.Activity.{Activity}
 use Rattle.hy_job.specs.declared.job.Kind.{Kind}
 use Rattle.hy_job.specs.declared.job.Kind.TheVariants as K
 use Rattle.hy_job.specs.Columns.{holds}
-use Rattle.hy_job.specs.Runs.{Taken, rows_at}
+use Rattle.hy_job.specs.Runs.{rows_at}
 use Rattle.hy_job.specs.Settled.{IsPassed, taken_rows}
-use Rattle.hy_driver.specs.Rows.{Row, values_of}
+use Rattle.hy_driver.specs.Rows.{Row}
 use Rattle.hy_driver.specs.Seen.{Check}
 use Rattle.hy_driver.specs.Steps.{Pass, Tested}
-use Rattle.hy_input.specs.Inputs.{InputOf, brings, given}
+use Rattle.hy_input.specs.Inputs.{InputOf, brings}
 use Rattle.hy_course.specs.Task.{IsCheck}
 use Rattle.hy_course.proofs.ListLaws.{passed_none}
 use Rattle.hy_pipeline.specs.Pipeline.{PipelineOf, take_of}
-use Rattle.hy_pipeline.specs.Tests.{ComeAreUntested, EndedAreTested, FedAreTested, PassSome, TurnedAreTested, at_hand, check_of, untested_of}
+use Rattle.hy_pipeline.specs.Tests.{ComeAreUntested, EndedAreTested, FedAreTested, PassSome, TurnedAreTested, at_hand, check_of}
 use Rattle.hy_pipeline.proofs.StepLaws.{taken_here}
 use Rattle.hy_pipeline.proofs.HandLaws.{brought_are_rows, moved_by}
 

@@ -1,15 +1,14 @@
 -- What parcels say, and what may be put for whom: small cases.
-use Rattle.std.specs.Prelude.{◌≡◌, ◌↔◌, ℕ, zero, suc, List, [], ◌∷◌, ◌++◌, Option, Some, None, true, false}
+use Rattle.std.specs.Prelude.{◌≡◌, ℕ, zero, suc, List, [], ◌∷◌, Some, None, true, false}
 use Rattle.al_value.specs.declared.value.Value.TheVariants as V
 use Rattle.al_func.specs.declared.rex.Rex.{Rex}
 use Rattle.hy_frame.specs.Row.{Fields}
-use Rattle.hy_rest.specs.Words.{Signal, Open, Rows, Fail, Close}
+use Rattle.hy_rest.specs.Words.{Open, Rows, Fail, Close}
 use Rattle.hy_frame.specs.declared.writer.WriterState.TheVariants.{Initial, Opened, Failed, Closed}
 use Rattle.hy_job.specs.declared.job.Wire.TheVariants as J
 use Rattle.hy_job.specs.declared.job.Kind.TheVariants as K
 use Rattle.hy_job.specs.Cases.{wire}
 use Rattle.hy_job.specs.Columns.{holds}
-use Rattle.hy_job.specs.Settled.{Take}
 use Rattle.hy_mail.specs.declared.parcel.Parcel.{Parcel}
 use Rattle.hy_mail.specs.declared.parcel.Parcel.TheVariants as P
 use Rattle.hy_driver.specs.Rows.{Row}

@@ -1,7 +1,6 @@
 -- What single calls of an input, of the operator and of the output come to as steps of a task's parts.
 use Rattle.std.specs.Prelude.{◌≡◌, ◌≢◌, ◌<◌, ℕ, Bool, true, false, List, [], ◌∷◌, ◌++◌, length}
 use Rattle.std.specs.List.{All}
-use Rattle.hy_frame.specs.Frame.{FrameOf}
 use Rattle.hy_rest.specs.Rest.{Alive, Continues}
 use Rattle.hy_rest.specs.Words.{put_rows}
 use Rattle.hy_job.specs.declared.job.Activity.{Activity}

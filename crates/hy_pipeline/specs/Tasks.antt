@@ -13,13 +13,13 @@ use Rattle.hy_mail.specs.declared.parcel.Parcel.{Parcel}
 use Rattle.hy_mail.specs.declared.parcel.Parcel.TheVariants as P
 use Rattle.hy_driver.specs.Rows.{Fed, Row}
 use Rattle.hy_output.specs.declared.way.Way.{Way}
-use Rattle.hy_output.specs.Ways.{SendsOn, places, state_of}
-use Rattle.hy_output.specs.Outputs.{packed}
-use Rattle.hy_input.specs.Inputs.{Closes, InputOf, closed_at}
-use Rattle.hy_course.specs.Task.{Deed, IsCheck, Looks as LooksAtWord, MayComeTo, Moves, Puts, Raises, TaskOf, Takes, Work}
-use Rattle.hy_course.specs.Parts.{AreAlive, PartsOf, PartsStep, RestOf}
-use Rattle.hy_pipeline.specs.Pipeline.{AreApart, PipelineOf, nothing, parts_of, put_for, signal_of, take_of, waits_for}
-use Rattle.hy_pipeline.specs.Laws.{Comes, GoesOut}
+use Rattle.hy_output.specs.Ways.{places, state_of, waiting}
+use Rattle.hy_input.specs.Inputs.{Closes, closed_at}
+use Rattle.hy_course.specs.Task.{IsCheck, Looks as LooksAtWord, MayComeTo, Moves, Puts, Raises, TaskOf, Takes, Work}
+use Rattle.hy_course.specs.Parts.{PartsOf, PartsStep, RestOf}
+use Rattle.hy_pipeline.specs.Pipeline.{AreApart, PipelineOf, nothing, parts_of, signal_of, take_of, waits_for}
+use Rattle.hy_course.specs.Course.{IsDoneTask, outcome_of}
+use Rattle.hy_pipeline.specs.Laws.{Comes, GoesOut, IsEnded, IsLiving, OwesNothing}
 
 pub record TaskSeen : Type 1 where
   pub pipeline : PipelineOf
@@ -76,7 +76,7 @@ abbrev pub ClosedStays : TaskSeen → TaskSeen → Type 0
 ClosedStays old new = (k p : ℕ) → closed_of new k p ≡ closed_of old k p
 
 -- it has not failed, before and behind a step by which its parts took and put these
-pub record GoesOn (job : Job) (a : Activity) (j : ℕ) (at : ℕ → ℕ) (old : TaskSeen) (took : List Take) (sent : ℕ → List (Signal Row)) (new : TaskSeen) : Type 0 where
+pub record StepsOn (job : Job) (a : Activity) (j : ℕ) (at : ℕ → ℕ) (old : TaskSeen) (took : List Take) (sent : ℕ → List (Signal Row)) (new : TaskSeen) : Type 0 where
   pub was : old.failure ≡ None
   pub is : new.failure ≡ None
   pub sound : old.pipeline.operator.sound → new.pipeline.operator.sound
@@ -90,7 +90,7 @@ pub record GoesOn (job : Job) (a : Activity) (j : ℕ) (at : ℕ → ℕ) (old :
 -- ---- local work
 
 pub record WorksOn (job : Job) (a : Activity) (j : ℕ) (at : ℕ → ℕ) (old new : TaskSeen) : Type 0 where
-  pub goes : GoesOn job a j at old [] nothing new
+  pub goes : StepsOn job a j at old [] nothing new
   pub closed : ClosedStays old new
   pub word : StaysAtWord old new
 
@@ -211,3 +211,33 @@ LookMoves t = (job : Job) (a : Activity) (j : ℕ) (at : ℕ → ℕ) → (t.fai
 
 abbrev pub RaiseMoves : TaskSeen → Type 0
 RaiseMoves t = (job : Job) (a : Activity) (j : ℕ) (at : ℕ → ℕ) → (t.failure ≡ None → ⊥) → Moves job a j (task_of job a at t) Raises (task_of job a at (record t { raised = true }))
+
+-- ---- something to put, and the end
+
+abbrev pub LivingMayPut : PipelineOf → Type 0
+LivingMayPut p = (job : Job) (a : Activity) (j : ℕ) (closed : ℕ → ℕ → Bool) (ended : ℕ → Bool) (at : ℕ → ℕ) → AreApart at (places p.output.way) → IsLiving job a j closed ended p
+    → MayPut job a j closed (parts_of at p)
+
+-- where each sender has closed nothing comes any more
+abbrev pub AllSendersClosed : Job → Activity → ℕ → (ℕ → ℕ → Bool) → Type 0
+AllSendersClosed job a j closed = (k p : ℕ) → IsSender job a j k p → closed k p ≡ true
+
+abbrev pub EndedMayPut : PipelineOf → Type 0
+EndedMayPut p = (job : Job) (a : Activity) (j : ℕ) (closed : ℕ → ℕ → Bool) (at : ℕ → ℕ) (left on : List Row) → AreApart at (places p.output.way) → AllSendersClosed job a j closed → IsEnded a.kind left on p
+    → MayPut job a j closed (parts_of at p)
+
+-- its output is closed and nothing waits, each sender has closed; where it did not fail its parts have ended
+pub record IsAtItsEnd (job : Job) (a : Activity) (j : ℕ) (at : ℕ → ℕ) (t : TaskSeen) : Type 0 where
+  pub apart : AreApart at (places t.pipeline.output.way)
+  pub left : List Row
+  pub ended : t.failure ≡ None → t.pipeline.operator.sound → IsEnded a.kind left t.hands_on t.pipeline
+  pub owes_nothing : OwesNothing t.pipeline.output.way
+  pub untested : t.failure ≡ None → t.untested ≡ []
+  pub closed_word : state_of t.pipeline.output.way ≡ Closed
+  pub idle : (k : ℕ) → k < places t.pipeline.output.way → waiting t.pipeline.output.way k ≡ []
+  pub nothing_on : (t.failure ≡ None → ⊥) → t.hands_on ≡ []
+  pub senders : AllSendersClosed job a j (closed_of t)
+  pub raised : t.raised ≡ is_fault (outcome_of t.failure)
+
+abbrev pub EndIsDone : TaskSeen → Type 0
+EndIsDone t = (job : Job) (a : Activity) (j : ℕ) (at : ℕ → ℕ) → IsAtItsEnd job a j at t → IsDoneTask job a j (task_of job a at t)

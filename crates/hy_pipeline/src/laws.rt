@@ -3,7 +3,7 @@
 ghost use Rattle.hy_pipeline.specs.Cases.{ChecksTest, FailedOwes, FramesAreRows, HandsAreLeft, HandsOfBoth, KeptComesFirst, LeftComesLast, NewWaysAreOfEdges, OfferedToSecond, PutForOne, RowsAreOwed, SwappedAreApart, WaitsForSecond};
 ghost use Rattle.hy_pipeline.specs.Laws.{ComeIsStep, EndedIsStep, EndedRests, FedIsStep, FinishIsStep, LivingAreAlive, NewAreNew, OpenIsStep, PutIsStep, TurnIsStep, WaitingIsFront};
 ghost use Rattle.hy_pipeline.specs.Tests.{BroughtAreRows, ComeAreUntested, EndedAreTested, FedAreTested, TurnedAreTested};
-ghost use Rattle.hy_pipeline.specs.Tasks.{FailMoves, FailedTakeMoves, FaultMoves, LookMoves, PutMoves, RaiseMoves, SightMoves, TakeMoves, WorkMoves};
+ghost use Rattle.hy_pipeline.specs.Tasks.{EndIsDone, EndedMayPut, FailMoves, FailedTakeMoves, FaultMoves, LivingMayPut, LookMoves, PutMoves, RaiseMoves, SightMoves, TakeMoves, WorkMoves};
 
 use hy_course::HasParts;
 
@@ -27,6 +27,8 @@ pub fn pipeline_laws<T: HasPipeline>()
     ensures put { (old new : T) → PutIsStep (T.pipeline old) (T.pipeline new) }
     ensures new { (t : T) → NewAreNew (T.pipeline t) }
     ensures living { (t : T) → LivingAreAlive (T.pipeline t) }
+    ensures living_put { (t : T) → LivingMayPut (T.pipeline t) }
+    ensures ended_put { (t : T) → EndedMayPut (T.pipeline t) }
     ensures ended_rests { (t : T) → EndedRests (T.pipeline t) }
     ensures brought { BroughtAreRows }
     ensures fed_tested { (old new : T) → FedAreTested (T.pipeline old) (T.pipeline new) }
@@ -56,6 +58,7 @@ pub fn task_laws<T: HasTask, M: HasParts>()
     ensures puts { (old new : T) → PutMoves (T.task old) (T.task new) }
     ensures looks { (t : T) → LookMoves (T.task t) }
     ensures raises { (t : T) → RaiseMoves (T.task t) }
+    ensures done { (t : T) → EndIsDone (T.task t) }
 {}
 
 /// What parcels say, what may be put for whom, and how what goes out begins and ends. It does nothing:

@@ -1,3 +1,4 @@
+use Rattle.hy_pipeline.proofs.DoneLaws.{ended_may_put, living_may_put}
 use Rattle.hy_pipeline.proofs.TestLaws.{come_are_untested, ended_are_tested, fed_are_tested, turned_are_tested}
 use Rattle.hy_pipeline.proofs.HandLaws.{brought_are_rows}
 use Rattle.hy_pipeline.proofs.EndLaws.{ended_rests, living_are_alive, new_are_new}
@@ -51,3 +52,9 @@ returns-clause-turned_tested g c old new = turned_are_tested (g.T.HasPipeline.pi
 
 pub returns-clause-come_untested : goal.returns-clause-come_untested
 returns-clause-come_untested g c old new = come_are_untested (g.T.HasPipeline.pipeline old) (g.T.HasPipeline.pipeline new)
+
+pub returns-clause-living_put : goal.returns-clause-living_put
+returns-clause-living_put g c t = living_may_put (g.T.HasPipeline.pipeline t)
+
+pub returns-clause-ended_put : goal.returns-clause-ended_put
+returns-clause-ended_put g c t = ended_may_put (g.T.HasPipeline.pipeline t)

@@ -1,3 +1,4 @@
+use Rattle.hy_pipeline.proofs.DoneLaws.{end_is_done}
 use Rattle.hy_pipeline.proofs.TaskLaws.{fail_moves, failed_take_moves, fault_moves, look_moves, put_moves, raise_moves, sight_moves, take_moves, work_moves}
 use Rattle.hy_pipeline.proofs.laws.task_laws.Goals as goal
 
@@ -27,3 +28,6 @@ returns-clause-looks g c t = look_moves (g.T.HasTask.task t)
 
 pub returns-clause-raises : goal.returns-clause-raises
 returns-clause-raises g c t = raise_moves (g.T.HasTask.task t)
+
+pub returns-clause-done : goal.returns-clause-done
+returns-clause-done g c t = end_is_done (g.T.HasTask.task t)
