@@ -3,3 +3,4 @@ pub mod Taking
 pub mod Merging
 pub mod Mixing
 pub mod Bringing
+pub mod CaseLaws

@@ -94,7 +94,7 @@ module _ (t : TakerOf) (from : ℕ) (frame : Option FrameOf) (next : ℕ) (up : 
     brings = λ k. none_rests k (drop next (frame_rows frame)) none;
   }
 
-  many_rests : Rests (input_of (T.Many t) from frame next up) (input_of (T.Many t) from None 0 up)
+  pub many_rests : Rests (input_of (T.Many t) from frame next up) (input_of (T.Many t) from None 0 up)
   many_rests = record {
     stays = record { from = refl; sends = λ m n p h. h; sent = λ m n p h. h };
     given_up = refl;
@@ -102,7 +102,7 @@ module _ (t : TakerOf) (from : ℕ) (frame : Option FrameOf) (next : ℕ) (up : 
     brings = λ k. none_rests k (drop next (frame_rows frame)) none;
   }
 
-  one_closes : (s : ℕ) → length t.closed ≤ 1 → s < length t.closed → Closes from (input_of (T.One t) from frame next up) (input_of (T.One (closing t s)) from None 0 up)
+  pub one_closes : (s : ℕ) → length t.closed ≤ 1 → s < length t.closed → Closes from (input_of (T.One t) from frame next up) (input_of (T.One (closing t s)) from None 0 up)
   one_closes s one low = record {
     stays = record {
       from = refl;
@@ -114,7 +114,7 @@ module _ (t : TakerOf) (from : ℕ) (frame : Option FrameOf) (next : ℕ) (up : 
     brings = λ k. none_rests k (drop next (frame_rows frame)) none;
   }
 
-  many_closes : (s : ℕ) → s < length t.closed → Closes s (input_of (T.Many t) from frame next up) (input_of (T.Many (closing t s)) from None 0 up)
+  pub many_closes : (s : ℕ) → s < length t.closed → Closes s (input_of (T.Many t) from frame next up) (input_of (T.Many (closing t s)) from None 0 up)
   many_closes s low = record {
     stays = record {
       from = refl;
@@ -132,7 +132,7 @@ one_rows t from frame next p f true none = record { stays = record { from = refl
 one_rows t from frame next p f false none =
     record { stays = record { from = refl; sends = λ m n q h. h; sent = λ m n q h. h }; given_up = refl; closed = λ q. refl; brings = λ k. none_gets k p f (drop next (frame_rows frame)) none }
 
-many_rows : (t : TakerOf) (from : ℕ) (frame : Option FrameOf) (next p : ℕ) (f : FrameOf) (up : Bool) → drop next (frame_rows frame) ≡ []
+pub many_rows : (t : TakerOf) (from : ℕ) (frame : Option FrameOf) (next p : ℕ) (f : FrameOf) (up : Bool) → drop next (frame_rows frame) ≡ []
     → TellsRows f p (input_of (T.Many t) from frame next up) (kept_by up f (input_of (T.Many t) from None 0 up)) up
 many_rows t from frame next p f true none = record { stays = record { from = refl; sends = λ m n q h. h; sent = λ m n q h. h }; given_up = refl; closed = λ q. refl }
 many_rows t from frame next p f false none =

@@ -6,5 +6,5 @@ mod laws;
 mod taker;
 
 pub use input::{Came, Input};
-pub use laws::input_laws;
+pub use laws::{input_cases, input_laws};
 pub use taker::Taker;
