@@ -3,8 +3,9 @@ use al_io::{
     read_whole, write_pieces, write_whole,
 };
 use al_value::Failed;
-use std::fs;
+use std::io::{ErrorKind, Write};
 use std::test::Fail;
+use std::{fs, io};
 
 #[test]
 fn reads_and_writes_in_memory(rt: HostRuntime) -> Result<(), Fail> {
@@ -64,5 +65,39 @@ fn writes_to_a_stream(rt: HostRuntime) -> Result<(), Fail> {
     assert_eq!(rt; sink.write(b"ab"), Ok(2));
     assert_eq!(rt; sink.write(b"cd"), Ok(1));
     assert_eq!(rt; sink.write(b"d"), Err(Failed));
+    Ok(())
+}
+
+/// A stream whose first writes are interrupted, as by a signal. It counts the bytes that it takes.
+#[derive(Drop)]
+struct Interrupted {
+    left: u32,
+    taken: usize,
+}
+
+impl Write for Interrupted {
+    fn write(&mut self, buf: &[u8]) -> io::Result<usize> {
+        if self.left > 0 {
+            self.left -= 1;
+            return Err(io::Error::from(ErrorKind::Interrupted));
+        }
+        self.taken = self.taken.saturating_add(buf.len());
+        Ok(buf.len())
+    }
+
+    fn flush(&mut self) -> io::Result<()> {
+        Ok(())
+    }
+}
+
+#[test]
+fn writes_again_after_an_interruption(rt: HostRuntime) -> Result<(), Fail> {
+    let mut stream = Interrupted { left: 3, taken: 0 };
+    let mut sink = StreamSink::new(&mut stream, rt.alloc());
+    assert_eq!(rt; sink.write(b"abc"), Ok(3));
+    assert_eq!(rt; sink.write(b"de"), Ok(2));
+    drop(sink);
+    assert_eq!(rt; stream.left, 0);
+    assert_eq!(rt; stream.taken, 5);
     Ok(())
 }

@@ -84,9 +84,14 @@ impl Aggregate {
 }
 
 impl Driver for Aggregate {
+    ghost use Rattle.std.specs.Prelude.{false};
     ghost use Rattle.hy_aggregate.specs.Aggregate.{agg_seen};
 
     ghost seen = { agg_seen };
+
+    ghost stored = { λ _. false };
+
+    ghost hands = { λ _. false };
 
     fn feed(&mut self, _bank: &mut Bank, _input: u32, row: RowRef<'_>) -> Result<(), OpFault> {
         self.phase = Phase::Working;

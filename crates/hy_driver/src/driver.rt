@@ -13,10 +13,17 @@ use hy_store::{Next, OpFault};
 /// or another part of its task has failed. After a fault only `give_up` may follow. Any of its calls
 /// may take frames of the bank, and holds them until it gives them back.
 pub trait Driver {
+    ghost use Rattle.std.specs.Prelude.{Bool};
     ghost use Rattle.hy_driver.specs.Seen.{Seen};
 
     // What contracts see of it.
     ghost seen: { Self → Seen };
+
+    // Whether it has a store, which no call takes from it or gives it.
+    ghost stored: { Self → Bool };
+
+    // Whether it may hand rows on, once it has ended, which no call changes either.
+    ghost hands: { Self → Bool };
 
     /// Takes a row of an input.
     fn feed(&mut self, bank: &mut Bank, input: u32, row: RowRef<'_>) -> Result<(), OpFault>
@@ -32,7 +39,9 @@ pub trait Driver {
         ensures faults { (seen self.old).store.faults ≤ (seen self.new).store.faults }
         ensures bank { Lent (seen self.old) (seen self.new) bank.old bank.new }
         ensures frames { (seen self.new).frames ≤ (seen self.old).fixed.memory + 1 }
-        ensures fixed { (seen self.new).fixed ≡ (seen self.old).fixed };
+        ensures fixed { (seen self.new).fixed ≡ (seen self.old).fixed }
+        ensures kept { stored self.new ≡ stored self.old }
+        ensures same { hands self.new ≡ hands self.old };
 
     /// Ends an input: no row of it comes any more.
     fn end(&mut self, bank: &mut Bank, input: u32) -> Result<(), OpFault>
@@ -47,7 +56,9 @@ pub trait Driver {
         ensures faults { (seen self.old).store.faults ≤ (seen self.new).store.faults }
         ensures bank { Lent (seen self.old) (seen self.new) bank.old bank.new }
         ensures frames { (seen self.new).frames ≤ (seen self.old).fixed.memory + 1 }
-        ensures fixed { (seen self.new).fixed ≡ (seen self.old).fixed };
+        ensures fixed { (seen self.new).fixed ≡ (seen self.old).fixed }
+        ensures kept { stored self.new ≡ stored self.old }
+        ensures same { hands self.new ≡ hands self.old };
 
     /// One turn, which gives at most one row.
     fn next(&mut self, bank: &mut Bank, out: &mut RowBuf) -> Result<Next, OpFault>
@@ -59,7 +70,9 @@ pub trait Driver {
         ensures faults { (seen self.old).store.faults ≤ (seen self.new).store.faults }
         ensures bank { Lent (seen self.old) (seen self.new) bank.old bank.new }
         ensures frames { (seen self.new).frames ≤ (seen self.old).fixed.memory + 1 }
-        ensures fixed { (seen self.new).fixed ≡ (seen self.old).fixed };
+        ensures fixed { (seen self.new).fixed ≡ (seen self.old).fixed }
+        ensures kept { stored self.new ≡ stored self.old }
+        ensures same { hands self.new ≡ hands self.old };
 
     /// Gives back all frames and tries to remove all runs. It takes no memory.
     fn give_up(&mut self, bank: &mut Bank)
@@ -67,5 +80,7 @@ pub trait Driver {
         ensures given_up { GivesUp (seen self.old) (seen self.new) }
         ensures faults { (seen self.old).store.faults ≤ (seen self.new).store.faults }
         ensures bank { Lent (seen self.old) (seen self.new) bank.old bank.new }
-        ensures fixed { (seen self.new).fixed ≡ (seen self.old).fixed };
+        ensures fixed { (seen self.new).fixed ≡ (seen self.old).fixed }
+        ensures kept { stored self.new ≡ stored self.old }
+        ensures same { hands self.new ≡ hands self.old };
 }

@@ -1,6 +1,6 @@
 //! How a driver with something to leave is ended.
 
-ghost use Rattle.std.specs.Prelude.{◌≡◌, []};
+ghost use Rattle.std.specs.Prelude.{◌≡◌, [], is_some};
 ghost use Rattle.hy_driver.specs.Handing.{HandedOn, IsDone, Left, store_of};
 ghost use Rattle.hy_driver.specs.Steps.{IsBankOf};
 
@@ -42,5 +42,6 @@ pub trait HandsOn<R: RunStore>: Driver {
         requires bank { IsBankOf (Self.seen self) bank.old }
         ensures handed { HandedOn (Self.seen self) result.0 }
         ensures store { store_of R.runs R.faults result.1 ≡ (Self.seen self).store }
-        ensures bank { Left (Self.seen self) bank.old bank.new };
+        ensures bank { Left (Self.seen self) bank.old bank.new }
+        ensures kept { is_some result.1 ≡ Self.stored self };
 }

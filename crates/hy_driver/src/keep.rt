@@ -54,9 +54,14 @@ impl KeepRows {
 }
 
 impl Driver for KeepRows {
+    ghost use Rattle.std.specs.Prelude.{false, true};
     ghost use Rattle.hy_driver.specs.Keep.{keep_seen};
 
     ghost seen = { keep_seen };
+
+    ghost stored = { λ _. false };
+
+    ghost hands = { λ _. true };
 
     fn feed(&mut self, _bank: &mut Bank, _input: u32, row: RowRef<'_>) -> Result<(), OpFault> {
         let mut kept = RowBuf::new(self.alloc);

@@ -51,9 +51,14 @@ impl PassRows {
 }
 
 impl Driver for PassRows {
+    ghost use Rattle.std.specs.Prelude.{false};
     ghost use Rattle.hy_driver.specs.Pass.{pass_seen};
 
     ghost seen = { pass_seen };
+
+    ghost stored = { λ _. false };
+
+    ghost hands = { λ _. false };
 
     fn feed(&mut self, _bank: &mut Bank, _input: u32, row: RowRef<'_>) -> Result<(), OpFault> {
         self.row.copy_from(&row)?;

@@ -96,12 +96,22 @@ impl<'a, R: RunStore> GroupBuild<'a, R> {
             store,
         }
     }
+
+    /// Tells that no run of its store is live, so that whoever ends it may know it. It does nothing.
+    pub fn no_runs(&self)
+        ensures { (⟦<GroupBuild<'a, R> as Driver>⟧.seen self.now).store.runs.live ≡ [] }
+    {}
 }
 
 impl<'a, R: RunStore> Driver for GroupBuild<'a, R> {
+    ghost use Rattle.std.specs.Prelude.{true};
     ghost use Rattle.hy_group.specs.Build.{build_state, group_fixed};
 
     ghost seen = { λ d. build_state (group_fixed d.settings.frame_size d.settings.memory d.shape.width d.shape.arity) d.arg.now d.groups d.rows d.ended d.phase (record { runs = R.runs d.store; faults = R.faults d.store }) };
+
+    ghost stored = { λ _. true };
+
+    ghost hands = { λ _. true };
 
     fn feed(&mut self, _bank: &mut Bank, _input: u32, row: RowRef<'_>) -> Result<(), OpFault> {
         match add_row(self.alloc, self.arg, &mut self.groups, &row) {

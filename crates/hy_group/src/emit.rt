@@ -96,13 +96,23 @@ impl<'a, R: RunStore> GroupEmit<'a, R> {
             store,
         }
     }
+
+    /// Tells that no run of its store is live, so that whoever ends it may know it. It does nothing.
+    pub fn no_runs(&self)
+        ensures { (⟦<GroupEmit<'a, R> as Driver>⟧.seen self.now).store.runs.live ≡ [] }
+    {}
 }
 
 impl<'a, R: RunStore> Driver for GroupEmit<'a, R> {
+    ghost use Rattle.std.specs.Prelude.{true, false};
     ghost use Rattle.hy_group.specs.Build.{group_fixed};
     ghost use Rattle.hy_group.specs.Emit.{emit_state};
 
     ghost seen = { λ d. emit_state (group_fixed d.settings.frame_size d.settings.memory d.shape.width d.shape.arity) d.shape.width d.arg.now d.rows d.at d.groups d.ended d.phase (record { runs = R.runs d.store; faults = R.faults d.store }) };
+
+    ghost stored = { λ _. true };
+
+    ghost hands = { λ _. false };
 
     fn feed(&mut self, _bank: &mut Bank, _input: u32, _row: RowRef<'_>) -> Result<(), OpFault> {
         self.phase = Phase::Working;

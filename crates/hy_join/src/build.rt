@@ -62,11 +62,15 @@ impl<R: RunStore> JoinBuild<R> {
 }
 
 impl<R: RunStore> Driver for JoinBuild<R> {
-    ghost use Rattle.std.specs.Prelude.{Some};
+    ghost use Rattle.std.specs.Prelude.{Some, true};
     ghost use Rattle.hy_driver.specs.Handing.{store_of};
     ghost use Rattle.hy_join.specs.Build.{build_seen};
 
     ghost seen = { λ d. build_seen d.kept (store_of R.runs R.faults (Some d.store)) };
+
+    ghost stored = { λ _. true };
+
+    ghost hands = { λ _. true };
 
     fn feed(&mut self, bank: &mut Bank, input: u32, row: RowRef<'_>) -> Result<(), OpFault> {
         self.kept.feed(bank, input, row)

@@ -80,14 +80,23 @@ impl<R: RunStore> JoinProbe<R> {
             Err((arg, rows)) => Err((arg, Handed { rows, frames, runs }, store)),
         }
     }
+
+    /// Tells that no run of its store is live, so that whoever ends it may know it. It does nothing.
+    pub fn no_runs(&self)
+        ensures { (probe_seen self.now.side self.now.left self.now.ended self.now.phase (store_of R.runs R.faults (Some self.now.store))).store.runs.live ≡ [] }
+    {}
 }
 
 impl<R: RunStore> Driver for JoinProbe<R> {
-    ghost use Rattle.std.specs.Prelude.{Some};
+    ghost use Rattle.std.specs.Prelude.{Some, true, false};
     ghost use Rattle.hy_driver.specs.Handing.{store_of};
     ghost use Rattle.hy_join.specs.Probe.{probe_seen};
 
     ghost seen = { λ d. probe_seen d.side d.left d.ended d.phase (store_of R.runs R.faults (Some d.store)) };
+
+    ghost stored = { λ _. true };
+
+    ghost hands = { λ _. false };
 
     fn feed(&mut self, _bank: &mut Bank, _input: u32, row: RowRef<'_>) -> Result<(), OpFault> {
         self.left.holds = false;

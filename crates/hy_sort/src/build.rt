@@ -56,9 +56,14 @@ impl SortBuild {
 }
 
 impl Driver for SortBuild {
+    ghost use Rattle.std.specs.Prelude.{false, true};
     ghost use Rattle.hy_sort.specs.Build.{build_seen};
 
     ghost seen = { build_seen };
+
+    ghost stored = { λ _. false };
+
+    ghost hands = { λ _. true };
 
     fn feed(&mut self, _bank: &mut Bank, _input: u32, row: RowRef<'_>) -> Result<(), OpFault> {
         let mut kept = RowBuf::new(self.alloc);

@@ -67,9 +67,14 @@ impl SortEmit {
 }
 
 impl Driver for SortEmit {
+    ghost use Rattle.std.specs.Prelude.{false};
     ghost use Rattle.hy_sort.specs.Emit.{emit_seen};
 
     ghost seen = { emit_seen };
+
+    ghost stored = { λ _. false };
+
+    ghost hands = { λ _. false };
 
     fn feed(&mut self, _bank: &mut Bank, _input: u32, _row: RowRef<'_>) -> Result<(), OpFault> {
         self.phase = Phase::Working;

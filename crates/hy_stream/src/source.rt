@@ -87,9 +87,14 @@ impl<'a> Scan<'a> {
 }
 
 impl<'a> Driver for Scan<'a> {
+    ghost use Rattle.std.specs.Prelude.{false};
     ghost use Rattle.hy_stream.specs.Source.{scan_seen};
 
     ghost seen = { scan_seen };
+
+    ghost stored = { λ _. false };
+
+    ghost hands = { λ _. false };
 
     fn feed(&mut self, _bank: &mut Bank, _input: u32, _row: RowRef<'_>) -> Result<(), OpFault> {
         self.phase = Phase::Working;
@@ -160,9 +165,14 @@ impl One {
 }
 
 impl Driver for One {
+    ghost use Rattle.std.specs.Prelude.{false};
     ghost use Rattle.hy_stream.specs.Source.{one_seen};
 
     ghost seen = { one_seen };
+
+    ghost stored = { λ _. false };
+
+    ghost hands = { λ _. false };
 
     fn feed(&mut self, _bank: &mut Bank, _input: u32, _row: RowRef<'_>) -> Result<(), OpFault> {
         self.phase = Phase::Working;

@@ -110,9 +110,14 @@ impl Stream {
 }
 
 impl Driver for Stream {
+    ghost use Rattle.std.specs.Prelude.{false};
     ghost use Rattle.hy_stream.specs.Stream.{stream_seen};
 
     ghost seen = { stream_seen };
+
+    ghost stored = { λ _. false };
+
+    ghost hands = { λ _. false };
 
     fn feed(&mut self, _bank: &mut Bank, input: u32, row: RowRef<'_>) -> Result<(), OpFault> {
         self.holds = false;

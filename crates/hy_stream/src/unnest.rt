@@ -87,9 +87,14 @@ impl Unnest {
 }
 
 impl Driver for Unnest {
+    ghost use Rattle.std.specs.Prelude.{false};
     ghost use Rattle.hy_stream.specs.Unnest.{unnest_seen};
 
     ghost seen = { unnest_seen };
+
+    ghost stored = { λ _. false };
+
+    ghost hands = { λ _. false };
 
     fn feed(&mut self, _bank: &mut Bank, _input: u32, row: RowRef<'_>) -> Result<(), OpFault> {
         let items = items_at(self.alloc, &self.generator, &row)?;

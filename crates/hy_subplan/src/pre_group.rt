@@ -97,9 +97,14 @@ impl PreGroup {
 }
 
 impl Driver for PreGroup {
+    ghost use Rattle.std.specs.Prelude.{false};
     ghost use Rattle.hy_subplan.specs.PreGroup.{pre_seen};
 
     ghost seen = { pre_seen };
+
+    ghost stored = { λ _. false };
+
+    ghost hands = { λ _. false };
 
     #[tactic(auto, using(crate::proofs::StretchLaws::call_laws))]
     fn feed(&mut self, _bank: &mut Bank, _input: u32, row: RowRef<'_>) -> Result<(), OpFault> {

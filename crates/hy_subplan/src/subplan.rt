@@ -93,9 +93,14 @@ impl Subplan {
 }
 
 impl Driver for Subplan {
+    ghost use Rattle.std.specs.Prelude.{false};
     ghost use Rattle.hy_subplan.specs.Subplan.{subplan_seen};
 
     ghost seen = { subplan_seen };
+
+    ghost stored = { λ _. false };
+
+    ghost hands = { λ _. false };
 
     #[tactic(auto, using(crate::proofs::SubplanLaws::feed_laws))]
     fn feed(&mut self, _bank: &mut Bank, _input: u32, row: RowRef<'_>) -> Result<(), OpFault> {

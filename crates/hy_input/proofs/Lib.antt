@@ -1,0 +1,6 @@
+pub mod Hands
+pub mod Taking
+pub mod Merging
+pub mod Mixing
+pub mod Bringing
+pub mod CaseLaws
