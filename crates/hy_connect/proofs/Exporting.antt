@@ -1,10 +1,9 @@
 -- How many frames a call exported.
-use Rattle.std.proofs.Common.{◌≡◌, ◌<◌, ◌≤◌, ◌+◌, ◌-◌, ◌^◌, ℕ, zero, suc, List, [], ◌∷◌, ◌++◌, length, set, get_or, Option, None, Some, Result, Ok, Err, OnOk, OnErr, refl, sym, ap, subst, ◌∙◌, arith}
+use Rattle.std.proofs.Common.{◌≡◌, ◌<◌, ◌+◌, ◌-◌, ◌^◌, ℕ, zero, suc, List, [], ◌∷◌, ◌++◌, length, set, get_or, refl, ap, subst, ◌∙◌, arith}
 use Rattle.hy_frame.specs.Bank.{BankOf, one_more}
-use Rattle.hy_frame.specs.Frame.{FrameOf}
 use Rattle.hy_mail.specs.declared.parcel.Parcel.{Parcel}
 use Rattle.hy_mail.specs.declared.parcel.Parcel.TheVariants as P
-use Rattle.hy_connect.specs.Outlets.{OutletOf, Exports, Grows, Pops, Sends, closed, emptied, failed, flushed, flushed_with, frames_in, frames_of, frames_waiting, outlet_at, posted}
+use Rattle.hy_connect.specs.Outlets.{OutletOf, Exports, Pops, frames_in, frames_of, frames_waiting, outlet_at, posted}
 use Rattle.hy_connect.specs.Many.{AreFresh, Each}
 use Rattle.hy_connect.proofs.Fronts.{read_at}
 

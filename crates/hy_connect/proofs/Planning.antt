@@ -1,5 +1,5 @@
 -- The mailboxes of a stage are those that its edges have by the numbers of their tasks.
-use Rattle.std.proofs.Common.{◌≡◌, ◌<◌, ◌≤◌, ◌+◌, ◌*◌, ℕ, zero, suc, nat_eq, Bool, true, false, cond, List, [], ◌∷◌, ◌++◌, map, filter, length, get_or, take, refl, sym, ap, ap₂, ◌∙◌, inr, arith, flat_map, append-nil, add-one, drop, drop-cons, mul-le-mul, Contains, if◌then◌else◌}
+use Rattle.std.proofs.Common.{◌≡◌, ◌<◌, ◌≤◌, ◌+◌, ◌*◌, ℕ, zero, suc, nat_eq, Bool, true, false, cond, List, [], ◌∷◌, ◌++◌, map, filter, length, get_or, take, refl, sym, ap, ap₂, ◌∙◌, inr, arith, flat_map, append-nil, add-one, mul-le-mul, Contains, if◌then◌else◌}
 use Rattle.std.specs.List.{AllByRecursion, list_any, range_with_len}
 use Rattle.std.proofs.lemmas.Grind.{flat_map-append}
 use Rattle.std.proofs.Math.Seq.{take-suc}
@@ -16,9 +16,8 @@ use Rattle.hy_job.specs.Stages.{IsPart}
 use Rattle.hy_job.specs.Sound.{SoundJob}
 use Rattle.hy_job.proofs.Members.{any_from, from_filter, range_below}
 use Rattle.hy_job.proofs.Pairs.{from_range}
-use Rattle.hy_places.specs.Finding.{place_of}
 use Rattle.hy_connect.specs.Plans.{edge_plans, ends_of, plan_at, plan_of, plans_at, plans_of, plans_over}
-use Rattle.hy_connect.proofs.Placing.{few_activities, here, past, place_row}
+use Rattle.hy_connect.proofs.Placing.{few_activities, place_row}
 
 -- ---- lists
 

@@ -1,4 +1,4 @@
-use Rattle.std.proofs.Common.{length, map, ap, refl, sym, ◌∙◌}
+use Rattle.std.proofs.Common.{map, ap, refl, sym, ◌∙◌}
 use Rattle.hy_frame.specs.Bank.{BankOf}
 use Rattle.hy_driver.specs.Rows.{values_of}
 use Rattle.hy_connect.specs.declared.route.Route.TheVariants.{ByHash, Whole}
