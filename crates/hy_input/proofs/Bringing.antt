@@ -1,5 +1,5 @@
 -- What inputs bring, for all that may still come.
-use Rattle.std.proofs.Common.{◌≡◌, ◌<◌, ◌+◌, ℕ, zero, suc, Bool, true, false, nat_eq, nat_lt, ◌&&◌, List, [], ◌∷◌, ◌++◌, map, length, drop, slice_index_or, None, refl, sym, ap, subst, ◌∙◌, arith}
+use Rattle.std.proofs.Common.{◌≡◌, ◌<◌, ℕ, zero, suc, Bool, true, false, nat_eq, nat_lt, ◌&&◌, List, [], ◌∷◌, ◌++◌, map, length, drop, slice_index_or, None, refl, sym, ap, subst, ◌∙◌, arith}
 use Rattle.std.specs.List.{All, AllByRecursion, range_with_len}
 use Rattle.std.specs.List.Sorted.{IsSorted}
 use Rattle.std.proofs.lemmas.Bool.{lt-ltb}
@@ -7,18 +7,18 @@ use Rattle.std.proofs.lemmas.List.Elements.{All-from_recursion}
 use Rattle.hy_job.specs.declared.job.Wire.{Wire}
 use Rattle.hy_job.specs.declared.job.Wire.TheVariants as W
 use Rattle.hy_job.specs.Columns.{Interleaves, keys_cmp}
-use Rattle.hy_job.specs.Runs.{ComesBy, Taken, by_sender, rows_at, rows_of}
+use Rattle.hy_job.specs.Runs.{ComesBy, Taken, rows_at, rows_of}
 use Rattle.hy_job.proofs.KeyOrder.{keys_cmp_total}
 use Rattle.hy_job.proofs.Members.{by_cases, nat_same, no_bool}
 use Rattle.hy_job.proofs.RunRows.{interleaves_all}
 use Rattle.hy_driver.specs.Rows.{Row, values_of}
 use Rattle.hy_connect.specs.Sources.{frame_rows, source_at}
-use Rattle.hy_connect.specs.Takers.{ComesAsPut, HaveClosed}
+use Rattle.hy_connect.specs.Takers.{ComesAsPut}
 use Rattle.hy_connect.specs.Merges.{IsOfOpen, MergerOf, may_give, rows_from, senders}
 use Rattle.hy_connect.proofs.Merging.{each_number, map_same, merge_none, merged_none, same_number}
 use Rattle.hy_input.specs.declared.taker.Taker.{Taker}
 use Rattle.hy_input.specs.declared.taker.Taker.TheVariants as T
-use Rattle.hy_input.specs.Inputs.{InputOf, IsDone, IsSent, brings_by, closed_at, closed_by, done_by, hand, input_of, only_at, sends_by}
+use Rattle.hy_input.specs.Inputs.{InputOf, IsSent, brings_by, closed_at, done_by, hand, input_of, only_at}
 use Rattle.hy_input.specs.Laws.{AreBrought, AreRowsBy, DoneBringNone, IsRow, MayBring, NewBringWire}
 use Rattle.hy_input.proofs.Mixing.{merged}
 

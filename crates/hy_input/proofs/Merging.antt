@@ -1,5 +1,5 @@
 -- What a merging taker says, of an input.
-use Rattle.std.proofs.Common.{◌≡◌, ◌≢◌, ◌<◌, ℕ, Bool, true, false, ◌&&◌, ◌||◌, List, [], ◌∷◌, ◌++◌, Option, None, Some, refl, sym, ap, subst, ◌∙◌, nat_eq, nat_lt, inl, inr}
+use Rattle.std.proofs.Common.{◌≡◌, ◌<◌, ℕ, Bool, true, false, ◌&&◌, ◌||◌, List, [], ◌∷◌, Option, refl, sym, ap, subst, ◌∙◌, nat_eq, nat_lt, inl, inr}
 use Rattle.std.proofs.lemmas.Bool.{cases_Bool, lt-ltb, ltb-true}
 use Rattle.hy_frame.specs.Bank.{BankOf}
 use Rattle.hy_frame.specs.Frame.{FrameOf}
@@ -16,7 +16,7 @@ use Rattle.hy_connect.proofs.Merging.{other_number, same_number}
 use Rattle.hy_input.specs.declared.input.Came.{Came}
 use Rattle.hy_input.specs.declared.input.Came.TheVariants as I
 use Rattle.hy_input.specs.declared.taker.Taker.TheVariants as T
-use Rattle.hy_input.specs.Inputs.{Closes, Drops, Gets, Gives, InputOf, IsOver, IsSent, Rests, Stays, TellsCame, TellsRows, TellsRowsOfMerge, TellsTakenOfMerge, brings, closed_at, input_of, only_at}
+use Rattle.hy_input.specs.Inputs.{Closes, Drops, Gets, Gives, InputOf, IsOver, IsSent, Rests, Stays, TellsCame, TellsRows, TellsRowsOfMerge, TellsTakenOfMerge, closed_at, input_of, only_at}
 use Rattle.hy_input.proofs.Taking.{only_taken}
 
 -- an input that takes from this merge

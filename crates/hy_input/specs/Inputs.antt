@@ -1,19 +1,16 @@
 -- What contracts see of an input of a task, and what its calls do to the rows that it may still bring.
 use Rattle.std.specs.Prelude.{◌≡◌, ◌≢◌, ◌⊎◌, ◌<◌, ◌≤◌, ◌+◌, ◌-◌, ℕ, nat_eq, nat_lt, Bool, true, false, ◌&&◌, ◌||◌, List, [], ◌∷◌, ◌++◌, map, filter, length, drop, slice_index_or, Option, Some, None}
-use Rattle.std.specs.List.{AllByRecursion}
 use Rattle.hy_frame.specs.Bank.{BankOf}
 use Rattle.hy_frame.specs.Frame.{FrameOf}
 use Rattle.hy_frame.specs.Row.{Fields}
 use Rattle.hy_rest.specs.Rest.{Continues}
-use Rattle.hy_job.specs.declared.job.Wire.{Wire}
-use Rattle.hy_job.specs.declared.job.Wire.TheVariants as W
-use Rattle.hy_job.specs.Runs.{ComesBy, Taken as TakenRow, rows_at}
+use Rattle.hy_job.specs.Runs.{Taken as TakenRow, rows_at}
 use Rattle.hy_mail.specs.declared.parcel.Parcel.TheVariants as P
 use Rattle.hy_mail.specs.Events.{Event, Empty, Took}
 use Rattle.hy_driver.specs.Rows.{Row, values_of}
-use Rattle.hy_connect.specs.Outlets.{Lent, held_in}
+use Rattle.hy_connect.specs.Outlets.{held_in}
 use Rattle.hy_connect.specs.declared.taker.Taken.{Taken}
-use Rattle.hy_connect.specs.Takers.{HaveClosed, IsGoing, TakerOf, TellsTaken}
+use Rattle.hy_connect.specs.Takers.{HaveClosed, IsGoing, TellsTaken}
 use Rattle.hy_connect.specs.Sources.{AllClosed, Brings, IsWanted, NoneAtHand, Returns, frame_rows, frames_held}
 use Rattle.hy_connect.specs.Merges as M
 use Rattle.hy_connect.specs.Merges.{BeginsBy, MergerOf, current_row, may_give, rows_taken, senders, source}

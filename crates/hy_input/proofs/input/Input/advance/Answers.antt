@@ -1,6 +1,5 @@
 use Rattle.std.proofs.Common.{Bool, true, false, subst, sym, ap, ◌∙◌}
 use Rattle.hy_input.specs.declared.taker.Taker.{Taker}
-use Rattle.hy_input.specs.declared.taker.Taker.TheVariants as T
 use Rattle.hy_input.specs.Inputs.{InputOf, TellsAdvanced, input_of}
 use Rattle.hy_connect.specs.Merges.{TellsMerged}
 use Rattle.hy_connect.specs.declared.merge.Merged.{Merged}

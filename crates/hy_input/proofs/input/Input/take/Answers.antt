@@ -1,4 +1,4 @@
-use Rattle.std.proofs.Common.{◌≡◌, ◌+◌, Option, subst, sym, ap, ◌∙◌}
+use Rattle.std.proofs.Common.{◌+◌, Option, subst, sym, ap, ◌∙◌}
 use Rattle.hy_frame.specs.Frame.{FrameOf}
 use Rattle.hy_connect.specs.Outlets.{held_in}
 use Rattle.hy_connect.specs.Sources.{Brings, Returns}
