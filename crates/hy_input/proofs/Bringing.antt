@@ -44,7 +44,7 @@ none_and : (b c : Bool) → b ≡ false → (b && c) ≡ false
 none_and true c h = absurd (no_bool h)
 none_and false c h = refl
 
-true_and : (b c : Bool) → b ≡ true → c ≡ true → (b && c) ≡ true
+pub true_and : (b c : Bool) → b ≡ true → c ≡ true → (b && c) ≡ true
 true_and true c h g = g
 true_and false c h g = h
 
@@ -129,7 +129,7 @@ none_comes k x (t ∷ more) never h = by_cases (nat_eq t.input k)
     (λ y. let g = h.0 (same_number t.input k y) in absurd (never g.0.0 g.0.1 t.sender g.0.2 g.1))
     (λ n. row_not k t more n ∙ none_comes k x more never h.1)
 
-known : (xs : List Bool) (s : ℕ) → s < length xs → slice_index_or xs s true ≡ true → slice_index_or xs s false ≡ true
+pub known : (xs : List Bool) (s : ℕ) → s < length xs → slice_index_or xs s true ≡ true → slice_index_or xs s false ≡ true
 known [] s low h = absurd (omega (arith, low))
 known (x ∷ xs) zero low h = h
 known (x ∷ xs) (suc s) low h = known xs s (omega (arith, low)) h

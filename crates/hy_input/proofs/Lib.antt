@@ -3,4 +3,5 @@ pub mod Taking
 pub mod Merging
 pub mod Mixing
 pub mod Bringing
+pub mod Closing
 pub mod CaseLaws

@@ -2,4 +2,5 @@ pub mod WayLaws
 pub mod PackLaws
 pub mod OfferLaws
 pub mod EndLaws
+pub mod WordLaws
 pub mod CaseLaws

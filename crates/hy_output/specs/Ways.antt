@@ -1,5 +1,6 @@
 -- What may still go out over a wire, or be kept, and what calls do to it.
 use Rattle.std.specs.Prelude.{◌≡◌, ◌≢◌, ◌<◌, ℕ, List, [], ◌∷◌, ◌++◌, length}
+use Rattle.std.specs.List.{AllByRecursion}
 use Rattle.hy_frame.specs.Frame.{FrameOf}
 use Rattle.hy_frame.specs.declared.writer.WriterState.{WriterState}
 use Rattle.hy_frame.specs.declared.writer.WriterState.TheVariants.{Opened}
@@ -43,6 +44,10 @@ waiting (W.Kept keeper) k = []
 abbrev pub rows_waiting : Way → ℕ → List Row
 rows_waiting (W.Wire w) k = waiting_rows (outlet w k)
 rows_waiting (W.Kept keeper) k = []
+
+-- no Fail waits for any receiver
+abbrev pub HasNoFail : Way → Type 0
+HasNoFail way = (k : ℕ) → k < places way → AllByRecursion (λ p. p ≢ P.Fail) (waiting way k)
 
 abbrev pub is_idle : Way → Type 0
 is_idle (W.Wire w) = IsIdle w

@@ -2,7 +2,7 @@
 ghost use Rattle.std.specs.Prelude.{◌≡◌, ◌≢◌, ◌+◌, ◌<◌, ℕ, ◌≤◌, ◌∷◌, [], length, true, false, None, Some, IfOk, OnOk, OnErr};
 ghost use Rattle.hy_driver.specs.Rows.{values_of};
 ghost use Rattle.hy_connect.specs.Outlets.{Lent, held_in};
-ghost use Rattle.hy_output.specs.Ways.{AreAsFar, Closes, Fails, HasShape, Posts, TellsOffer, frames_of, held_by, is_idle, mailbox_at, most_of, places, state_of};
+ghost use Rattle.hy_output.specs.Ways.{AreAsFar, Closes, Fails, HasNoFail, HasShape, Posts, TellsOffer, frames_of, held_by, is_idle, mailbox_at, most_of, places, state_of};
 ghost use Rattle.hy_output.specs.Outputs.{Begins, Extends, Flushes, Loses, Packs, Spoils, held, output_of};
 
 use crate::keeper::Keeper;
@@ -170,6 +170,7 @@ impl Output {
         ensures empty { OnOk result (held self.new ≡ 0) }
         ensures err { OnErr result (Spoils self.old [] self.new) }
         ensures opened { OnErr result (state_of self.new.way ≡ WriterState.Opened) }
+        ensures clean { (word : ℕ → WriterState) → AreAsFar word self.old.way → OnOk result (HasNoFail self.new.way) }
         ensures bank { Lent (held self.old) (held self.new) bank.old bank.new }
     {
         self.flush(bank)?;

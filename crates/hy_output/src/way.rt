@@ -2,7 +2,7 @@
 ghost use Rattle.std.specs.Prelude.{◌≡◌, ◌≢◌, ◌⊎◌, ◌+◌, ◌<◌, ◌≤◌, ℕ, [], map, true, false, OnOk, OnErr};
 ghost use Rattle.hy_driver.specs.Rows.{values_of};
 ghost use Rattle.hy_connect.specs.Outlets.{Lent};
-ghost use Rattle.hy_output.specs.Ways.{AreAsFar, Closes, Fails, HasArity, HasShape, HasUnit, Posts, Sends, Tears, TellsOffer, mailbox_at, places, held_by, is_idle, most_of, state_of};
+ghost use Rattle.hy_output.specs.Ways.{AreAsFar, Closes, Fails, HasArity, HasNoFail, HasShape, HasUnit, Posts, Sends, Tears, TellsOffer, mailbox_at, places, held_by, is_idle, most_of, state_of};
 
 use crate::keeper::Keeper;
 use hy_connect::{Offer, WireWriter};
@@ -106,6 +106,7 @@ impl Way {
         ensures bank { Lent (held_by self.old) 0 bank.old bank.new }
         ensures told { Closes self.old self.new }
         ensures posts { state_of self.old ≡ WriterState.Failed → Posts Parcel.Close self.old self.new }
+        ensures clean { HasNoFail self.old → HasNoFail self.new }
     {
         match self {
             Way::Wire(writer) => writer.close(bank),

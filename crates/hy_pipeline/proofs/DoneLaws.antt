@@ -33,7 +33,7 @@ none_waits at way r (suc k) h = by_cases (nat_eq (at k) r)
 
 pub end_is_done : (t : TaskSeen) → EndIsDone t
 end_is_done t job a j at h = record {
-  rest = λ e s. let q = ended_rests t.pipeline job a at h.left t.hands_on h.apart (h.ended e s) in (q.0, q.1, λ r lt. q.3 h.owes_nothing r, q.2);
+  rest = λ e s. let q = ended_rests t.pipeline job a at h.left t.hands_on h.apart (h.ended e s) in (q.0, q.1, λ r lt. q.3 (h.owes_nothing e) r, q.2);
   untested = h.untested;
   owed = λ failed r is. ap (λ ws. ws ++ lacks (state_of t.pipeline.output.way)) (none_waits at t.pipeline.output.way r (places t.pipeline.output.way) h.idle) ∙ ap lacks h.closed_word;
   nothing = h.nothing_on;

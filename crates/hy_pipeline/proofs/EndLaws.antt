@@ -121,7 +121,7 @@ living_are_alive p job a j closed ended at apart h = record {
 
 -- ---- at the end
 
-none_sent : (route : Route) (n k : ℕ) → sent_by route n k [] ≡ []
+pub none_sent : (route : Route) (n k : ℕ) → sent_by route n k [] ≡ []
 none_sent ByRoute.Whole n k = refl
 none_sent (ByRoute.ByHash columns) n k = refl
 

@@ -247,10 +247,17 @@ module _ (at : ℕ → ℕ) (way : Way) (r : ℕ) where
         | inr x ↦ inr (rw f x.0, λ k lt e. elim (last_or k n lt) [ inl less ↦ x.1 k less e | inr same ↦ no_bool (sym (nat_is (at n) r (subst (λ m. at m ≡ r) same e)) ∙ f) ])
       ])
 
-pub waiting_is_front : (p : PipelineOf) → WaitingIsFront p
-waiting_is_front p at fronts r given put h = elim (found at p.output.way r (places p.output.way)) [
+-- where what now waits in each place is a front of what might be offered there, so is what waits for each receiver
+pub fronts_wait : (at : ℕ → ℕ) (way way' : Way) → places way' ≡ places way → (r : ℕ) (given put : List Row)
+    → ((k : ℕ) → k < places way → offers way k given put → (rest : List Row) × (put ≡ rows_waiting way' k ++ rest))
+    → OffersTo at way r given put → (rest : List Row) × (put ≡ put_rows (waits_in at way' (places way') r) ++ rest)
+fronts_wait at way way' same r given put fronts h = elim (found at way' r (places way')) [
   | inl x ↦
-      (let q = fronts x.0 x.1 given put (h.there x.0 x.1 x.2) in
-      (q.0, q.1 ∙ ap (λ rows. rows ++ q.0) (sym (ap put_rows x.3 ∙ rows_wait p.output.way x.0))))
-  | inr x ↦ ([], h.none x.1 ∙ ap (λ ws. put_rows ws ++ []) (sym x.0))
+      (let low : x.0 < places way = subst (λ n. x.0 < n) same x.1 in
+      let q = fronts x.0 low (h.there x.0 low x.2) in
+      (q.0, q.1 ∙ ap (λ rows. rows ++ q.0) (sym (ap put_rows x.3 ∙ rows_wait way' x.0))))
+  | inr x ↦ ([], h.none (λ k lt e. x.1 k (subst (λ n. k < n) (sym same) lt) e) ∙ ap (λ ws. put_rows ws ++ []) (sym x.0))
 ]
+
+pub waiting_is_front : (p : PipelineOf) → WaitingIsFront p
+waiting_is_front p at fronts r given put h = fronts_wait at p.output.way p.output.way refl r given put (λ k lt o. fronts k lt given put o) h

@@ -24,7 +24,7 @@ use Rattle.hy_course.proofs.ListLaws.{passed_none}
 use Rattle.hy_course.proofs.PartLaws.{parts_continue}
 use Rattle.hy_pipeline.specs.Pipeline.{AreApart, PipelineOf, nothing, parts_of, put_for, signal_of, take_of, waits_for, waits_in}
 use Rattle.hy_pipeline.specs.Laws.{TakesParcel}
-use Rattle.hy_pipeline.specs.Tasks.{BreaksOff, ClosesBy, FailMoves, FailedTakeMoves, FaultMoves, StepsOn, LookMoves, MayPut, PutMoves, PutsOut, RaiseMoves, SightMoves, TakeMoves, TaskSeen, WorkMoves, closed_of, lacks, owes, task_of}
+use Rattle.hy_pipeline.specs.Tasks.{BreaksOff, ClosesBy, FailMoves, FailedTakeMoves, FaultMoves, StepsOn, LookMoves, MayPut, PutMoves, PutsOut, RaiseMoves, SightMoves, TakeMoves, TaskSeen, Tells, WorkMoves, closed_of, lacks, owes, task_of}
 use Rattle.hy_pipeline.proofs.StepLaws.{come_is_step, differ, places_stay, put_is_step}
 
 -- ---- what steps have in common
@@ -57,10 +57,10 @@ module _ (job : Job) (a : Activity) (j : ℕ) (at : ℕ → ℕ) (old new : Task
     cause = h.cause;
   }
 
-none_taken : All (λ (t : Take). is_fail t.signal ≡ false) []
+pub none_taken : All (λ (t : Take). is_fail t.signal ≡ false) []
 none_taken = All-nil (λ (t : Take). is_fail t.signal ≡ false)
 
-none_put : All (λ (s : Signal Row). is_fail s ≡ false) []
+pub none_put : All (λ (s : Signal Row). is_fail s ≡ false) []
 none_put = All-nil (λ (s : Signal Row). is_fail s ≡ false)
 
 one_of : {X : Type 0} (Q : X → Type 0) (x : X) → Q x → All Q (x ∷ [])
@@ -101,7 +101,7 @@ sight_moves old last new job a j at h = record {
 }
 
 module _ (job : Job) (a : Activity) (j : ℕ) (at : ℕ → ℕ) where
-  stays_goes : (t : TaskSeen) (f : Option Outcome) → t.failure ≡ f → (t.failure ≡ None → t.pipeline.operator.sound → MayPut job a j (closed_of t) (parts_of at t.pipeline))
+  stays_goes : (t : TaskSeen) (f : Option Outcome) → t.failure ≡ f → (t.failure ≡ None → Tells t.pipeline.operator → MayPut job a j (closed_of t) (parts_of at t.pipeline))
       → Goes job a j (task_of job a at t) (Looks false) (task_of job a at t) f f
   stays_goes t None e may = (
     refl,

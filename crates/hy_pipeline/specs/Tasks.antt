@@ -3,6 +3,7 @@ use Rattle.std.specs.Prelude.{◌≡◌, ◌≢◌, ◌<◌, ℕ, Bool, true, fa
 use Rattle.std.specs.List.Sorted.{IsPermutation}
 use Rattle.hy_frame.specs.declared.writer.WriterState.{WriterState}
 use Rattle.hy_frame.specs.declared.writer.WriterState.TheVariants.{Initial, Opened, Failed, Closed}
+use Rattle.hy_rest.specs.Rest.{Alive}
 use Rattle.hy_rest.specs.Words as S
 use Rattle.hy_rest.specs.Words.{Signal, put_rows}
 use Rattle.hy_job.specs.declared.job.Activity.{Activity}
@@ -12,6 +13,9 @@ use Rattle.hy_job.specs.Settled.{HasCause, IsPassed, Outcome, Stopped, Take, is_
 use Rattle.hy_mail.specs.declared.parcel.Parcel.{Parcel}
 use Rattle.hy_mail.specs.declared.parcel.Parcel.TheVariants as P
 use Rattle.hy_driver.specs.Rows.{Fed, Row}
+use Rattle.hy_driver.specs.Seen.{Seen}
+use Rattle.hy_driver.specs.Steps.{IsOver, MayCome}
+use Rattle.hy_driver.specs.declared.phase.Phase.TheVariants.{Ended}
 use Rattle.hy_output.specs.declared.way.Way.{Way}
 use Rattle.hy_output.specs.Ways.{places, state_of, waiting}
 use Rattle.hy_input.specs.Inputs.{Closes, closed_at}
@@ -20,6 +24,13 @@ use Rattle.hy_course.specs.Parts.{PartsOf, PartsStep, RestOf}
 use Rattle.hy_pipeline.specs.Pipeline.{AreApart, PipelineOf, nothing, parts_of, signal_of, take_of, waits_for}
 use Rattle.hy_course.specs.Course.{IsDoneTask, outcome_of}
 use Rattle.hy_pipeline.specs.Laws.{Comes, GoesOut, IsEnded, IsLiving, OwesNothing}
+
+-- what holds of an operator between the steps of its task, and makes its `rest` true of it. Of one with a store it says that the store tells
+pub record Tells (s : Seen) : Type 0 where
+  pub sound : s.sound
+  -- for all that may come there is something that it may put
+  pub alive : Alive (MayCome s) s.rest
+  pub over : s.phase ≡ Ended → IsOver s
 
 pub record TaskSeen : Type 1 where
   pub pipeline : PipelineOf
@@ -47,7 +58,7 @@ owes at way r = waits_for at way r ++ lacks (state_of way)
 -- as its record sees it
 abbrev pub task_of : Job → Activity → (ℕ → ℕ) → TaskSeen → TaskOf
 task_of job a at t = record {
-  sound = t.pipeline.operator.sound;
+  sound = Tells t.pipeline.operator;
   rest = RestOf job a (parts_of at t.pipeline);
   untested = t.untested;
   closed = closed_of t;
@@ -79,12 +90,12 @@ ClosedStays old new = (k p : ℕ) → closed_of new k p ≡ closed_of old k p
 pub record StepsOn (job : Job) (a : Activity) (j : ℕ) (at : ℕ → ℕ) (old : TaskSeen) (took : List Take) (sent : ℕ → List (Signal Row)) (new : TaskSeen) : Type 0 where
   pub was : old.failure ≡ None
   pub is : new.failure ≡ None
-  pub sound : old.pipeline.operator.sound → new.pipeline.operator.sound
+  pub sound : Tells old.pipeline.operator → Tells new.pipeline.operator
   pub fed : List Fed
   pub gave : List Row
   pub written : List Row
-  pub steps : old.pipeline.operator.sound → PartsStep job a (parts_of at old.pipeline) took fed gave written sent (parts_of at new.pipeline)
-  pub lives : old.pipeline.operator.sound → MayPut job a j (closed_of new) (parts_of at new.pipeline)
+  pub steps : Tells old.pipeline.operator → PartsStep job a (parts_of at old.pipeline) took fed gave written sent (parts_of at new.pipeline)
+  pub lives : Tells old.pipeline.operator → MayPut job a j (closed_of new) (parts_of at new.pipeline)
   pub tests : Tests a old took new
 
 -- ---- local work
@@ -111,8 +122,8 @@ pub record TakesIn (job : Job) (a : Activity) (j : ℕ) (at : ℕ → ℕ) (k p 
   pub comes : Comes k p parcel old.pipeline new.pipeline
   pub was : old.failure ≡ None
   pub is : new.failure ≡ None
-  pub sound : old.pipeline.operator.sound → new.pipeline.operator.sound
-  pub lives : old.pipeline.operator.sound → MayPut job a j (closed_of new) (parts_of at new.pipeline)
+  pub sound : Tells old.pipeline.operator → Tells new.pipeline.operator
+  pub lives : Tells old.pipeline.operator → MayPut job a j (closed_of new) (parts_of at new.pipeline)
   pub tests : Tests a old (take_of k p parcel) new
   pub word : StaysAtWord old new
 
@@ -145,8 +156,8 @@ pub record PutsOut (job : Job) (a : Activity) (j : ℕ) (at : ℕ → ℕ) (k : 
   pub out : GoesOut k parcel old.pipeline new.pipeline
   pub outcome : new.failure ≡ old.failure
   pub no_fail : old.failure ≡ None → parcel ≢ P.Fail
-  pub sound : old.pipeline.operator.sound → new.pipeline.operator.sound
-  pub lives : old.failure ≡ None → old.pipeline.operator.sound → MayPut job a j (closed_of new) (parts_of at new.pipeline)
+  pub sound : Tells old.pipeline.operator → Tells new.pipeline.operator
+  pub lives : old.failure ≡ None → Tells old.pipeline.operator → MayPut job a j (closed_of new) (parts_of at new.pipeline)
   pub untested : new.untested ≡ old.untested
   pub word : StaysAtWord old new
 
@@ -163,9 +174,9 @@ pub record BreaksOff (job : Job) (a : Activity) (j : ℕ) (at : ℕ → ℕ) (ol
   pub fed : List Fed
   pub gave : List Row
   pub written : List Row
-  pub steps : old.pipeline.operator.sound → PartsStep job a (parts_of at old.pipeline) [] fed gave written nothing last
-  pub lives : old.pipeline.operator.sound → MayPut job a j (closed_of old) last
-  pub front : old.pipeline.operator.sound → (r : ℕ) → r < job.partitions → (given put : List Row) → last.offers r given put
+  pub steps : Tells old.pipeline.operator → PartsStep job a (parts_of at old.pipeline) [] fed gave written nothing last
+  pub lives : Tells old.pipeline.operator → MayPut job a j (closed_of old) last
+  pub front : Tells old.pipeline.operator → (r : ℕ) → r < job.partitions → (given put : List Row) → last.offers r given put
       → (rest : List Row) × (put ≡ put_rows (waits_for at new.pipeline.output.way r) ++ rest)
   -- it is open: word of its failure and its end are still to come
   pub open_still : state_of new.pipeline.output.way ≡ Opened
@@ -206,7 +217,7 @@ SightMoves old last new = (job : Job) (a : Activity) (j : ℕ) (at : ℕ → ℕ
 
 -- a look at a word that was not raised changes nothing, nor does a raise but that it raised
 abbrev pub LookMoves : TaskSeen → Type 0
-LookMoves t = (job : Job) (a : Activity) (j : ℕ) (at : ℕ → ℕ) → (t.failure ≡ None → t.pipeline.operator.sound → MayPut job a j (closed_of t) (parts_of at t.pipeline))
+LookMoves t = (job : Job) (a : Activity) (j : ℕ) (at : ℕ → ℕ) → (t.failure ≡ None → Tells t.pipeline.operator → MayPut job a j (closed_of t) (parts_of at t.pipeline))
     → Moves job a j (task_of job a at t) (LooksAtWord false) (task_of job a at t)
 
 abbrev pub RaiseMoves : TaskSeen → Type 0
@@ -230,8 +241,8 @@ EndedMayPut p = (job : Job) (a : Activity) (j : ℕ) (closed : ℕ → ℕ → B
 pub record IsAtItsEnd (job : Job) (a : Activity) (j : ℕ) (at : ℕ → ℕ) (t : TaskSeen) : Type 0 where
   pub apart : AreApart at (places t.pipeline.output.way)
   pub left : List Row
-  pub ended : t.failure ≡ None → t.pipeline.operator.sound → IsEnded a.kind left t.hands_on t.pipeline
-  pub owes_nothing : OwesNothing t.pipeline.output.way
+  pub ended : t.failure ≡ None → Tells t.pipeline.operator → IsEnded a.kind left t.hands_on t.pipeline
+  pub owes_nothing : t.failure ≡ None → OwesNothing t.pipeline.output.way
   pub untested : t.failure ≡ None → t.untested ≡ []
   pub closed_word : state_of t.pipeline.output.way ≡ Closed
   pub idle : (k : ℕ) → k < places t.pipeline.output.way → waiting t.pipeline.output.way k ≡ []
