@@ -4,6 +4,7 @@ use Rattle.std.proofs.lemmas.Grind.{get_or-set_at}
 use Rattle.std.proofs.lemmas.List.{drop_all, drop_more, get_or_default}
 use Rattle.hy_frame.specs.Bank.{BankOf}
 use Rattle.hy_frame.specs.Frame.{FrameOf}
+use Rattle.hy_frame.specs.FrameText.{AllRows}
 use Rattle.hy_frame.specs.Row.{Fields}
 use Rattle.hy_connect.specs.Outlets.{held_in}
 use Rattle.hy_connect.specs.Sources.{SourceOf, AreBareBefore, AreBare, Brings, HasGiven, LetGo, LetGoBefore, LetsGo, Returns, advanced, bare, frame_rows, frames_held, given, hand, no_source, source_at}
@@ -30,6 +31,9 @@ hand_none n = drop_all n [] (omega arith)
 
 pub bare_hand : (x : SourceOf) → hand (bare x) ≡ []
 bare_hand x = hand_none x.next
+
+pub bare_rows : (width : ℕ) (x : SourceOf) → AllRows width (hand (bare x))
+bare_rows width x = subst (AllRows width) (sym (bare_hand x)) tt
 
 -- the row that is gone on to stands in front of what is left
 pub advanced_hand : (x : SourceOf) → hand x ≢ [] → hand x ≡ given (advanced x) ∷ hand (advanced x)

@@ -4,9 +4,10 @@ use Rattle.al_value.specs.declared.settings.SortKey.{SortKey}
 use Rattle.std.specs.List.{range_with_len}
 use Rattle.hy_frame.specs.Bank.{BankOf, one_more}
 use Rattle.hy_frame.specs.Frame.{FrameOf}
+use Rattle.hy_frame.specs.FrameText.{AllRows}
 use Rattle.hy_frame.specs.Row.{Fields}
 use Rattle.hy_rest.specs.Rest.{Finished}
-use Rattle.hy_job.proofs.Members.{by_cases}
+use Rattle.hy_job.proofs.Members.{by_cases, no_bool}
 use Rattle.hy_job.specs.declared.job.Wire.{Wire}
 use Rattle.hy_job.specs.declared.job.Wire.TheVariants as W
 use Rattle.hy_job.specs.Runs.{rows_of}
@@ -18,7 +19,7 @@ use Rattle.hy_connect.specs.declared.merge.Merged.TheVariants as M
 use Rattle.hy_connect.specs.declared.taker.Taken.{Taken}
 use Rattle.hy_connect.specs.declared.taker.Taken.TheVariants as T
 use Rattle.hy_connect.specs.Outlets.{held_in}
-use Rattle.hy_connect.specs.Sources.{SourceOf, AllClosed, AreBare, AreNew, Brings, HasGiven, IsLeast, IsWanted, Lacks, LetGo, NoneAtHand, NoneLacks, Returns, TellsTake, advanced, bare, closing, first_at, first_of, frames_held, given, hand, is_before, keeping, source_at}
+use Rattle.hy_connect.specs.Sources.{SourceOf, AllClosed, AreBare, AreNew, Brings, HasGiven, HoldRows, IsLeast, IsWanted, Lacks, LetGo, NoneAtHand, NoneLacks, Returns, TellsTake, advanced, bare, closing, first_at, first_of, frames_held, given, hand, is_before, keeping, source_at}
 use Rattle.hy_connect.specs.Merges.{BeginsBy, Closes, Gets, Gives, GivesUp, HasCurrent, IsMerge, IsMerging, MergerOf, Rests, StaysMerger, TellsMergeTake, TellsMerged, may_give, merge_keys, merger_of, rows_from}
 use Rattle.hy_connect.proofs.Merging.{merge_same, other_number, same_number}
 use Rattle.hy_connect.proofs.Giving.{gets_on, gives_on, nothing_left, rests_on}
@@ -95,6 +96,9 @@ module _ (keys : List SortKey) (xs : List SourceOf) (c : Option ℕ) (up : Bool)
 
       others : (j : ℕ) → j ≢ s → hand (source_at (set xs s x) j) ≡ hand (source_at xs j)
       others j ne = ap hand (keep_source xs s j x ne)
+
+  pub holds_set : (x : SourceOf) (width : ℕ) → AllRows width (hand x) → HoldRows width xs → HoldRows width (set xs s x)
+  holds_set x width here all j low = by_place x (λ k y. k < length xs → AllRows width (hand y)) (λ l. here) (λ k ne l. all k l) j (subst (λ (n : ℕ). j < n) (length-set xs s x) low)
 
   back : (x : SourceOf) (a b : BankOf) → held_in x.frame ≡ 0 → Returns (held_in (source_at xs s).frame) 0 a b → Returns (frames_held xs) (frames_held (set xs s x)) a b
   back x a b e r = returns_set xs s x a b wanted.there (subst (λ (n : ℕ). Returns (held_in (source_at xs s).frame) n a b) (sym e) r)
@@ -288,6 +292,14 @@ module _ {P : Type 0} (happens : P → Event → P → Type 0) (port port' : P) 
       (λ y. let h = handed y in subst (λ (r : Taken). TellsTake happens port port' a b up old new r) (sym h.0) (y, h.1 ∙ bared, brought, took))
       (λ n. let h = kept n in subst (λ (r : Taken). TellsTake happens port port' a b up old new r) (sym h.0) (n, (g, h.1 ∙ ap (keeping g) bared, brought, took)))
 
+kept_none : {P : Type 0} (happens : P → Event → P → Type 0) (port port' : P) (a b : BankOf) (up : Bool) (d x : SourceOf) (result : Taken) → up ≡ true → TellsTake happens port port' a b up d x result → held_in x.frame ≡ 0
+kept_none happens port port' a b up d x T.Empty gave t = ap (λ (y : SourceOf). held_in y.frame) t.0
+kept_none happens port port' a b up d x (T.Frame f) gave t = ap (λ (y : SourceOf). held_in y.frame) t.1
+kept_none happens port port' a b up d x T.Kept gave t = absurd (no_bool (sym gave ∙ t.0))
+kept_none happens port port' a b up d x T.Word gave t = elim t.1 [ | inl o ↦ ap (λ (y : SourceOf). held_in y.frame) o.0 | inr c ↦ ap (λ (y : SourceOf). held_in y.frame) c.0 ]
+kept_none happens port port' a b up d x T.Failed gave t = ap (λ (y : SourceOf). held_in y.frame) t.0
+kept_none happens port port' a b up d x T.Ended gave t = absurd t
+
 -- ---- calls, from a taker to a taker
 
 module _ (self : MergerOf) (keys : List SortKey) (xs : List SourceOf) (c : Option ℕ) (up : Bool) (view : merger_of keys xs c up ≡ self) where
@@ -306,6 +318,25 @@ module _ (self : MergerOf) (keys : List SortKey) (xs : List SourceOf) (c : Optio
       subst (λ (m : MergerOf). TellsMergeTake happens port port' a b m (merger_of keys (set xs s x) None up) result) view
       (take_told keys xs c up s wants happens port port' a b x result
       (subst (λ (y : SourceOf). TellsTake happens port port' a b up y x result) (is ∙ read_source xs s d wants.there) told))
+
+  pub call_rows : (arity : ℕ → ℕ) (s : ℕ) (zs : List SourceOf) (d x : SourceOf) → zs ≡ xs → IsWanted zs s → d ≡ get_or xs s d → AllRows (arity d.mailbox) (hand x)
+      → (width : ℕ) → ((j : ℕ) → j < length self.sources → arity (source_at self.sources j).mailbox ≡ width) → HoldRows width self.sources → HoldRows width (set xs s x)
+  call_rows arity s zs d x e wanted is rows width all holds =
+      let wants : IsWanted xs s = subst (λ (l : List SourceOf). IsWanted l s) e wanted in
+      let same : d ≡ source_at xs s = is ∙ read_source xs s d wants.there in
+      let sources : xs ≡ self.sources = ap (λ (m : MergerOf). m.sources) view in
+      let here : arity d.mailbox ≡ width = ap (λ (y : SourceOf). arity y.mailbox) (same ∙ ap (λ (l : List SourceOf). source_at l s) sources) ∙ all s (subst (λ (l : List SourceOf). s < length l) sources wants.there) in
+      holds_set keys xs c up s wants x width (subst (λ (n : ℕ). AllRows n (hand x)) here rows) (subst (HoldRows width) (sym sources) holds)
+
+  -- who has given up keeps no frame that comes
+  pub call_less : {P : Type 0} (happens : P → Event → P → Type 0) (port port' : P) (a b : BankOf) (s : ℕ) (zs : List SourceOf) (d x : SourceOf) (result : Taken) → zs ≡ xs → IsWanted zs s
+      → TellsTake happens port port' a b up d x result → self.given_up ≡ true → frames_held (set xs s x) ≤ frames_held self.sources
+  call_less happens port port' a b s zs d x result e wanted told gave =
+      let low : s < length xs = subst (λ (l : List SourceOf). s < length l) e wanted.there in
+      let none = kept_none happens port port' a b up d x result (ap (λ (m : MergerOf). m.given_up) view ∙ gave) told in
+      let h = frames_set xs s x low in
+      let same = self_held in
+      omega arith
 
   pub call_gave_up : (ys : List SourceOf) → AreBare xs ys → GivesUp self (merger_of keys ys None true)
   call_gave_up ys h = subst (λ (m : MergerOf). GivesUp m (merger_of keys ys None true)) view (given_up keys xs ys c up h)

@@ -5,6 +5,7 @@ use Rattle.std.specs.Ordering.{is_lt}
 use Rattle.hy_driver.specs.Rows.{values_of}
 use Rattle.hy_frame.specs.Bank.{BankOf, one_more}
 use Rattle.hy_frame.specs.Frame.{FrameOf}
+use Rattle.hy_frame.specs.FrameText.{AllRows}
 use Rattle.hy_frame.specs.Row.{Fields}
 use Rattle.hy_job.specs.Columns.{keys_cmp}
 use Rattle.hy_mail.specs.declared.parcel.Parcel.{Parcel}
@@ -66,6 +67,10 @@ pub record IsWanted (sources : List SourceOf) (s : ℕ) : Type 0 where
 -- every sender's Close was taken; so it is where there is no sender
 abbrev pub AllClosed : List SourceOf → Type 0
 AllClosed sources = (s : ℕ) → s < length sources → (source_at sources s).closed ≡ true
+
+-- each row at hand is one of so many fields
+abbrev pub HoldRows : ℕ → List SourceOf → Type 0
+HoldRows width sources = (s : ℕ) → s < length sources → AllRows width (hand (source_at sources s))
 
 -- no row is at hand
 abbrev pub NoneAtHand : List SourceOf → Type 0

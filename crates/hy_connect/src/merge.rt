@@ -1,7 +1,8 @@
 //! What a task takes from where the wire merges.
 ghost use Rattle.std.specs.Prelude.{◌≡◌, ◌≢◌, ◌<◌, ◌≤◌, ℕ, None, length, true, false, IfNone, IfOk, IfSome};
 ghost use Rattle.hy_connect.specs.Merges.{BeginsBy, GivesUp, IsMerging, IsNewMerger, MayTake, TellsMergeTake, TellsMerged, current_row, merge_keys, senders, source};
-ghost use Rattle.hy_connect.specs.Sources.{AllClosed, IsWanted, NoneLacks, Returns, frames_held};
+ghost use Rattle.hy_frame.specs.Row.{IsRow};
+ghost use Rattle.hy_connect.specs.Sources.{AllClosed, HoldRows, IsWanted, NoneLacks, Returns, frames_held};
 
 use crate::source::{
     Source, all_closed, give_all_back, least_of, let_all_go, make_sources, wanted,
@@ -94,6 +95,8 @@ impl MergeTaker {
         requires held { frames_held self.old.sources ≤ bank.old.out }
         requires room { bank.old.out < bank.old.limit }
         ensures told { TellsMergeTake P.happens port.old port.new bank.old bank.new self.old self.new result }
+        ensures rows { (width : ℕ) → ((s : ℕ) → s < senders self.old → P.arity port.old (source self.old s).mailbox ≡ width) → HoldRows width self.old.sources → HoldRows width self.new.sources }
+        ensures frames { self.old.given_up ≡ true → frames_held self.new.sources ≤ frames_held self.old.sources }
         ensures kept { P.keeps port.old port.new }
     {
         self.current = None;
@@ -125,7 +128,8 @@ impl MergeTaker {
     /// The row that `next_row` went on to.
     pub fn current(&self) -> RowRef<'_>
         requires { self.now.current ≢ None }
-        ensures { result ≡ current_row self.now }
+        ensures row { result ≡ current_row self.now }
+        ensures fields { IsRow (length (current_row self.now)) (current_row self.now) }
     {
         let Some(k) = self.current else {
             unreachable!()

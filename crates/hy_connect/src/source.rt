@@ -1,5 +1,8 @@
 //! What a merging taker knows of its senders.
 ghost use Rattle.std.specs.Prelude.{◌≡◌, ◌≢◌, ◌+◌, ◌<◌, ◌≤◌, [], length, IfNone, IfOk, IfSome, true, false};
+ghost use Rattle.hy_frame.specs.FrameText.{AllRows};
+ghost use Rattle.hy_frame.specs.Row.{IsRow};
+ghost use Rattle.hy_mail.specs.Words.{HasArity};
 ghost use Rattle.hy_connect.specs.Outlets.{held_in};
 ghost use Rattle.hy_connect.specs.Sources.{AllClosed, AreBare, AreNew, HasGiven, IsWanted, Lacks, LetGo, LetsGo, NoneLacks, Returns, TellsLeast, TellsOne, TellsTake, advanced, bare, closing, first_at, first_in, first_of, frames_held, given, hand, is_before, keeping, lesser_of, new_source};
 
@@ -83,7 +86,8 @@ impl Source {
     /// The row that was given last.
     pub(crate) fn given(&self) -> RowRef<'_>
         requires { HasGiven self.now }
-        ensures { result ≡ given self.now }
+        ensures row { result ≡ given self.now }
+        ensures fields { IsRow (length (given self.now)) (given self.now) }
     {
         let Some(frame) = &self.frame else {
             unreachable!()
@@ -140,7 +144,10 @@ impl Source {
     fn keep(&mut self, frame: Frame, hands_on: bool) -> Taken
         ensures handed { hands_on ≡ true → (result ≡ Taken.Frame frame) × (self.new ≡ self.old) }
         ensures kept { hands_on ≡ false → (result ≡ Taken.Kept) × (self.new ≡ keeping frame self.old) }
+        ensures rows { AllRows frame.arity frame.rows }
     {
+        // Its count tells what the frame's rows are.
+        let _rows = frame.rows();
         if hands_on {
             return Taken::Frame(frame);
         }
@@ -163,6 +170,7 @@ impl Source {
         requires held { held_in self.old.frame ≤ bank.old.out }
         requires room { bank.old.out < bank.old.limit }
         ensures told { TellsTake P.happens port.old port.new bank.old bank.new hands_on self.old self.new result }
+        ensures rows { AllRows (P.arity port.old self.old.mailbox) (hand self.new) }
         ensures kept { P.keeps port.old port.new }
     {
         self.give_back(bank);
@@ -186,6 +194,7 @@ fn take_one<P: Port>(mailbox: u32, port: &mut P) -> Option<Parcel>
     requires receives { P.receives port.old mailbox }
     requires one { P.senders port.old mailbox ≡ 1 }
     ensures took { TellsOne P.happens port.old mailbox port.new result }
+    ensures arity { IfSome result (λ parcel. HasArity (P.arity port.old mailbox) parcel) }
     ensures kept { P.keeps port.old port.new }
 {
     let Some((_, parcel)) = port.take(mailbox) else {

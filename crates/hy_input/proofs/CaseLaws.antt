@@ -2,16 +2,16 @@
 use Rattle.std.proofs.Common.{◌≡◌, ◌<◌, inl, inr, ℕ, zero, suc, nat_lt, Bool, true, false, true≢false, ◌&&◌, List, [], ◌∷◌, Some, None, refl, sym, ap, subst, ◌∙◌, arith}
 use Rattle.std.proofs.lemmas.List.Elements.{All-from_recursion}
 use Rattle.al_value.specs.declared.value.Value.TheVariants as V
-use Rattle.hy_frame.specs.Row.{Fields}
+use Rattle.hy_frame.specs.Row.{Fields, IsRow}
 use Rattle.hy_job.specs.Columns.{Interleaves, Takes}
 use Rattle.hy_driver.specs.Rows.{Row, values_of}
 use Rattle.hy_connect.specs.Cases.{false_row, true_frame, true_row}
 use Rattle.hy_connect.specs.MergeCases.{by_first, has_closed, sends_true}
 use Rattle.hy_connect.specs.Merges.{IsMerge}
-use Rattle.hy_connect.specs.Sources.{AllClosed, NoneAtHand, source_at}
+use Rattle.hy_connect.specs.Sources.{AllClosed, IsWanted, Lacks, NoneAtHand, SourceOf, source_at}
 use Rattle.hy_connect.specs.Takers.{HaveClosed, IsGoing}
 use Rattle.hy_connect.proofs.MergeCaseProofs.{first_bare_is_wanted, lesser_is_first}
-use Rattle.hy_input.specs.Cases.{CloseCountsOnce, CloseIsItsSenders, DoneWhereNoneIsLeft, FramesAreHeld, FramesComeWhole, GivingUpKeepsNone, HandIsBrought, LesserIsBrought, OpenSendersSend, RowsComeOneByOne, RowsHaveWidth, SendersHavePartitions, WantedWhereNoneIsLeft, comes, gave_back, two_rows}
+use Rattle.hy_input.specs.Cases.{CloseCountsOnce, CloseIsItsSenders, DoneWhereNoneIsLeft, FirstBareIsAsked, MailboxesHaveWidth, RowsAreHeld, RowsAreKept, SendersStay, from_box, FramesAreHeld, FramesComeWhole, GivingUpKeepsNone, HandIsBrought, LesserIsBrought, OpenSendersSend, RowsComeOneByOne, RowsHaveWidth, SendersHavePartitions, WantedWhereNoneIsLeft, comes, gave_back, two_rows}
 use Rattle.hy_input.proofs.Taking.{many_closes, many_rests, many_rows, one_closes}
 
 -- whether the first row is TRUE
@@ -199,4 +199,76 @@ rows_have_width = (
   (λ h. let e = h.0.0 in omega (arith, e)),
   tt,
   (λ h. let e = (h 1 (omega arith)).0.0 in omega (arith, e)),
+)
+
+-- ---- who is asked, and what stays
+
+-- a mailbox of its own for each of three senders, of whom the second and the third have no row at hand
+abbrev three : List SourceOf
+three = from_box 3 0 ∷ from_box 5 1 ∷ from_box 7 1 ∷ []
+
+first_lacks_not : Lacks (source_at three 0) → ⊥
+first_lacks_not l = some_row ((2 ∷ []) ∷ []) [] l.none
+
+second_lacks : Lacks (source_at three 1)
+second_lacks = record { going = refl; none = refl }
+
+second_wanted : IsWanted three 1
+second_wanted = record { there = omega arith; lacks = second_lacks; first = before }
+  where
+    before : (j : ℕ) → j < 1 → Lacks (source_at three j) → ⊥
+    before zero low l = first_lacks_not l
+    before (suc j) low l = absurd (omega (arith, low))
+
+only_second : (s : ℕ) → IsWanted three s → s ≡ 1
+only_second zero w = absurd (first_lacks_not w.lacks)
+only_second (suc zero) w = refl
+only_second (suc (suc s)) w = absurd (w.first 1 (omega arith) second_lacks)
+
+box_of_second : (s m : ℕ) → IsWanted three s → m ≡ (source_at three s).mailbox → m ≡ 5
+box_of_second s m w e = e ∙ ap (λ (k : ℕ). (source_at three k).mailbox) (only_second s w)
+
+pub first_bare_is_asked : FirstBareIsAsked
+first_bare_is_asked = (
+  (1, second_wanted, refl),
+  (λ a. let e = box_of_second a.0 3 a.1 a.2 in omega (arith, e)),
+  (λ a. let e = box_of_second a.0 7 a.1 a.2 in omega (arith, e)),
+  refl,
+  (λ e. omega (arith, e)),
+)
+
+tag_is_field : (tag : ℕ) → tag < 3 → IsRow 1 ((tag ∷ []) ∷ [])
+tag_is_field tag low = (refl, (inl (low, refl), tt))
+
+pub rows_are_held : RowsAreHeld
+rows_are_held = (
+  record { rows = (tag_is_field 2 (omega arith), (tag_is_field 1 (omega arith), tt)); lone = tt },
+  (λ h. let e = h.rows.0.0 in omega (arith, e)),
+  record { rows = tt; lone = tt },
+  (λ h. let e = (h.rows 1 (omega arith)).0.0 in omega (arith, e)),
+  (λ h. let e = h.lone in absurd (cc)),
+)
+
+pub rows_are_kept : RowsAreKept
+rows_are_kept = (
+  record { holds = record { rows = (tag_is_field 1 (omega arith), tt); lone = tt }; row = λ e. tag_is_field 2 (omega arith); empty = λ e. absurd (true≢false e) },
+  (λ h. not_none 0 (h.empty refl)),
+)
+
+pub senders_stay : SendersStay
+senders_stay = (
+  record { taker = (refl, refl); from = refl },
+  (λ h. let e = h.taker.1 in omega (arith, e)),
+  (λ h. h.taker),
+  (λ h. let e = h.taker.mailbox 0 (omega arith) in omega (arith, e)),
+)
+
+pub mailboxes_have_width : MailboxesHaveWidth
+mailboxes_have_width = (
+  (λ m n p h. h.0),
+  (λ h. let e = h 4 0 1 (refl, omega arith, refl) in omega (arith, e)),
+  (λ m n p h. let low = h.1 in absurd (omega (arith, low))),
+  (λ h. let e = h 5 0 1 (omega arith, refl, refl) in omega (arith, e)),
+  refl,
+  refl,
 )

@@ -5,3 +5,4 @@ pub mod Mixing
 pub mod Bringing
 pub mod Closing
 pub mod CaseLaws
+pub mod Holding

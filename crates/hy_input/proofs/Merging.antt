@@ -16,7 +16,7 @@ use Rattle.hy_connect.proofs.Merging.{other_number, same_number}
 use Rattle.hy_input.specs.declared.input.Came.{Came}
 use Rattle.hy_input.specs.declared.input.Came.TheVariants as I
 use Rattle.hy_input.specs.declared.taker.Taker.TheVariants as T
-use Rattle.hy_input.specs.Inputs.{Closes, Drops, Gets, Gives, InputOf, IsOver, IsSent, Rests, Stays, TellsCame, TellsRows, TellsRowsOfMerge, TellsTakenOfMerge, closed_at, input_of, only_at}
+use Rattle.hy_input.specs.Inputs.{Closes, Drops, Gets, Gives, InputOf, IsAsked, IsOver, Rests, Stays, TellsCame, TellsRows, TellsRowsOfMerge, TellsTakenOfMerge, closed_at, input_of, only_at}
 use Rattle.hy_input.proofs.Taking.{only_taken}
 
 -- an input that takes from this merge
@@ -117,9 +117,9 @@ pub merge_rows : (m m' : MergerOf) (s : ℕ) (f : FrameOf) (from : ℕ) (frame :
 merge_rows m m' s f from frame next up true h = merge_drops m m' from frame next up h
 merge_rows m m' s f from frame next up false h = merge_gets m m' s f from frame next up h
 
--- the sender whose row is wanted is one of its senders
-pub wanted_sends : (m : MergerOf) (s : ℕ) (from : ℕ) (frame : Option FrameOf) (next : ℕ) (up : Bool) → IsWanted m.sources s → IsSent (merging m from frame next up) (source m s).mailbox 0 s
-wanted_sends m s from frame next up w = (w.there, refl, refl)
+-- the sender whose row is wanted is one of its senders, and it is asked
+pub wanted_sends : (m : MergerOf) (s : ℕ) (from : ℕ) (frame : Option FrameOf) (next : ℕ) (up : Bool) → IsWanted m.sources s → IsAsked (merging m from frame next up) (source m s).mailbox 0 s
+wanted_sends m s from frame next up w = ((w.there, refl, refl), (s, w, refl))
 
 pub merge_comes : {P : Type 0} (happens : P → Event → P → Type 0) (port port' : P) (m m' : MergerOf) (from : ℕ) (frame : Option FrameOf) (next : ℕ) (up : Bool) (came : Came)
     → TellsTakenOfMerge happens port port' m m' came → TellsCame happens port port' (merging m from frame next up) (merging m' from frame next up) came

@@ -150,14 +150,14 @@ module _ {P : Type 0} (happens : P → Event → P → Type 0) (port port' : P) 
 
   pub plain_empty : (t t' : Taker) → wants_by t (drop next (frame_rows frame)) → TellsTakenBy happens port port' bank bank' t t' K.Empty → TellsCame happens port port' (was t) (then_is t') C.Empty × (bank' ≡ bank)
   plain_empty (T.One t) (T.One t') w h = (
-    (t.mailbox, 0, from, (refl, going_some t.closed w.1, refl), subst (λ (x : TakerOf). Rests (was (T.One t)) (then_is (T.One x))) (sym h.1) (one_rests t from frame next up w.0), h.3),
+    (t.mailbox, 0, from, ((refl, going_some t.closed w.1, refl), refl), subst (λ (x : TakerOf). Rests (was (T.One t)) (then_is (T.One x))) (sym h.1) (one_rests t from frame next up w.0), h.3),
     h.2,
   )
   plain_empty (T.One t) (T.Many t') w h = absurd h
   plain_empty (T.One t) (T.Merge m) w h = absurd h
   plain_empty (T.Many t) (T.One t') w h = absurd h
   plain_empty (T.Many t) (T.Many t') w h = (
-    (t.mailbox, 0, 0, (refl, going_some t.closed w.1, refl), subst (λ (x : TakerOf). Rests (was (T.Many t)) (then_is (T.Many x))) (sym h.1) (many_rests t from frame next up w.0), h.3),
+    (t.mailbox, 0, 0, ((refl, going_some t.closed w.1, refl), refl), subst (λ (x : TakerOf). Rests (was (T.Many t)) (then_is (T.Many x))) (sym h.1) (many_rests t from frame next up w.0), h.3),
     h.2,
   )
   plain_empty (T.Many t) (T.Merge m) w h = absurd h
@@ -165,14 +165,14 @@ module _ {P : Type 0} (happens : P → Event → P → Type 0) (port port' : P) 
 
   pub plain_failed : (t t' : Taker) → wants_by t (drop next (frame_rows frame)) → TellsTakenBy happens port port' bank bank' t t' K.Failed → TellsCame happens port port' (was t) (then_is t') C.Failed × (bank' ≡ bank)
   plain_failed (T.One t) (T.One t') w h = (
-    (t.mailbox, h.3.0, from, (refl, h.3.1, refl), subst (λ (x : TakerOf). Rests (was (T.One t)) (then_is (T.One x))) (sym h.1) (one_rests t from frame next up w.0), h.3.2),
+    (t.mailbox, h.3.0, from, ((refl, h.3.1, refl), refl), subst (λ (x : TakerOf). Rests (was (T.One t)) (then_is (T.One x))) (sym h.1) (one_rests t from frame next up w.0), h.3.2),
     h.2,
   )
   plain_failed (T.One t) (T.Many t') w h = absurd h
   plain_failed (T.One t) (T.Merge m) w h = absurd h
   plain_failed (T.Many t) (T.One t') w h = absurd h
   plain_failed (T.Many t) (T.Many t') w h = (
-    (t.mailbox, h.3.0, h.3.0, (refl, h.3.1, refl), subst (λ (x : TakerOf). Rests (was (T.Many t)) (then_is (T.Many x))) (sym h.1) (many_rests t from frame next up w.0), h.3.2),
+    (t.mailbox, h.3.0, h.3.0, ((refl, h.3.1, refl), refl), subst (λ (x : TakerOf). Rests (was (T.Many t)) (then_is (T.Many x))) (sym h.1) (many_rests t from frame next up w.0), h.3.2),
     h.2,
   )
   plain_failed (T.Many t) (T.Merge m) w h = absurd h
@@ -184,7 +184,7 @@ module _ {P : Type 0} (happens : P → Event → P → Type 0) (port port' : P) 
       t.mailbox,
       h.2.0,
       from,
-      (refl, h.2.1, refl),
+      ((refl, h.2.1, refl), refl),
       elim h.2.2 [
         | inl o ↦ inl (subst (λ (x : TakerOf). Rests (was (T.One t)) (then_is (T.One x))) (sym o.0) (one_rests t from frame next up w.0), o.1)
         | inr c ↦ inr (subst (λ (x : TakerOf). Closes from (was (T.One t)) (then_is (T.One x))) (sym c.0) (one_closes t from frame next up w.0 h.2.0 one h.2.1), c.1)
@@ -200,7 +200,7 @@ module _ {P : Type 0} (happens : P → Event → P → Type 0) (port port' : P) 
       t.mailbox,
       h.2.0,
       h.2.0,
-      (refl, h.2.1, refl),
+      ((refl, h.2.1, refl), refl),
       elim h.2.2 [
         | inl o ↦ inl (subst (λ (x : TakerOf). Rests (was (T.Many t)) (then_is (T.Many x))) (sym o.0) (many_rests t from frame next up w.0), o.1)
         | inr c ↦ inr (subst (λ (x : TakerOf). Closes h.2.0 (was (T.Many t)) (then_is (T.Many x))) (sym c.0) (many_closes t from frame next up w.0 h.2.0 h.2.1), c.1)
@@ -214,12 +214,12 @@ module _ {P : Type 0} (happens : P → Event → P → Type 0) (port port' : P) 
   pub plain_rows : (t t' : Taker) (f : FrameOf) → wants_by t (drop next (frame_rows frame)) → TellsTakenBy happens port port' bank bank' t t' (K.Frame f)
       → TellsCame happens port port' (was t) (kept_by up f (then_is t')) C.Rows
   plain_rows (T.One t) (T.One t') f w h =
-      (t.mailbox, h.3.0, from, f, (refl, h.3.1, refl), subst (λ (x : TakerOf). TellsRows f from (was (T.One t)) (kept_by up f (then_is (T.One x))) up) (sym h.1) (one_rows t from frame next from f up w.0), h.3.2)
+      (t.mailbox, h.3.0, from, f, ((refl, h.3.1, refl), refl), subst (λ (x : TakerOf). TellsRows f from (was (T.One t)) (kept_by up f (then_is (T.One x))) up) (sym h.1) (one_rows t from frame next from f up w.0), h.3.2)
   plain_rows (T.One t) (T.Many t') f w h = absurd h
   plain_rows (T.One t) (T.Merge m) f w h = absurd h
   plain_rows (T.Many t) (T.One t') f w h = absurd h
   plain_rows (T.Many t) (T.Many t') f w h =
-      (t.mailbox, h.3.0, h.3.0, f, (refl, h.3.1, refl), subst (λ (x : TakerOf). TellsRows f h.3.0 (was (T.Many t)) (kept_by up f (then_is (T.Many x))) up) (sym h.1) (many_rows t from frame next h.3.0 f up w.0), h.3.2)
+      (t.mailbox, h.3.0, h.3.0, f, ((refl, h.3.1, refl), refl), subst (λ (x : TakerOf). TellsRows f h.3.0 (was (T.Many t)) (kept_by up f (then_is (T.Many x))) up) (sym h.1) (many_rows t from frame next h.3.0 f up w.0), h.3.2)
   plain_rows (T.Many t) (T.Merge m) f w h = absurd h
   plain_rows (T.Merge m) t' f w h = absurd h
 

@@ -8,7 +8,7 @@ use Rattle.hy_connect.specs.MergeCases.{by_first, has_closed, sends_true}
 use Rattle.hy_connect.specs.Merges.{merger_of}
 use Rattle.hy_connect.specs.Sources.{SourceOf}
 use Rattle.hy_input.specs.declared.taker.Taker.TheVariants as T
-use Rattle.hy_input.specs.Inputs.{Closes, Drops, Gets, Gives, GivesUp, HasEnded, InputOf, IsDone, IsSent, Rests, Wants, brings, closed_at, held, input_of}
+use Rattle.hy_input.specs.Inputs.{Asks, Closes, ComesAs, Drops, Gets, Gives, GivesUp, HasEnded, HoldsRows, InputOf, IsDone, IsSent, IsStill, KeepsRows, Rests, Wants, brings, closed_at, held, input_of, most}
 use Rattle.hy_input.specs.Laws.{HasRowsOf, MayBring}
 
 -- the frame of TRUE and FALSE
@@ -120,3 +120,37 @@ OpenSendersSend = MayBring 0 (of_many (true ∷ false ∷ []) None 0 false) (com
 abbrev pub RowsHaveWidth : Type 0
 RowsHaveWidth = HasRowsOf (of_one (false ∷ []) (Some two_rows) 0 false) 1 × (HasRowsOf (of_one (false ∷ []) (Some two_rows) 1 false) 2 → ⊥)
     × HasRowsOf (of_one (false ∷ []) (Some two_rows) 2 false) 2 × (HasRowsOf (of_merge (has_closed ∷ sends_true 0 ∷ []) false) 2 → ⊥)
+
+-- a sender of this mailbox with TRUE at hand, of whose frame so many rows were given
+abbrev pub from_box : ℕ → ℕ → SourceOf
+from_box mailbox next = record { mailbox = mailbox; closed = false; frame = Some true_frame; next = next }
+
+-- of a merge the mailbox of the first sender is asked of which no row is at hand, and of the others the one mailbox
+abbrev pub FirstBareIsAsked : Type 0
+FirstBareIsAsked = Asks (of_merge (from_box 3 0 ∷ from_box 5 1 ∷ from_box 7 1 ∷ []) false) 5 × (Asks (of_merge (from_box 3 0 ∷ from_box 5 1 ∷ from_box 7 1 ∷ []) false) 3 → ⊥)
+    × (Asks (of_merge (from_box 3 0 ∷ from_box 5 1 ∷ from_box 7 1 ∷ []) false) 7 → ⊥)
+    × Asks (of_many (true ∷ false ∷ []) None 0 false) 4 × (Asks (of_many (true ∷ false ∷ []) None 0 false) 3 → ⊥)
+
+-- rows at hand are of one width, where some are at hand, and a merge has no frame of its own
+abbrev pub RowsAreHeld : Type 0
+RowsAreHeld = HoldsRows (of_one (false ∷ []) (Some two_rows) 0 false) 1 × (HoldsRows (of_one (false ∷ []) (Some two_rows) 1 false) 2 → ⊥)
+    × HoldsRows (of_many (false ∷ false ∷ []) (Some two_rows) 2 false) 2 × (HoldsRows (of_merge (has_closed ∷ sends_true 0 ∷ []) false) 2 → ⊥)
+    × (HoldsRows (input_of (T.Merge (merger_of by_first [] None false)) 1 (Some two_rows) 2 false) 1 → ⊥)
+
+-- where it goes on it has the row that it went on to, and where none comes any more the frame is gone
+abbrev pub RowsAreKept : Type 0
+RowsAreKept = KeepsRows 1 (of_one (false ∷ []) (Some two_rows) 0 false) (of_one (false ∷ []) (Some two_rows) 1 false) true
+    × (KeepsRows 1 (of_one (true ∷ []) (Some two_rows) 2 false) (of_one (true ∷ []) (Some two_rows) 2 false) false → ⊥)
+
+-- a Close and what is at hand change no sender; another mailbox, one sender less and another kind of taker do
+abbrev pub SendersStay : Type 0
+SendersStay = IsStill (of_many (false ∷ false ∷ []) (Some two_rows) 1 false) (of_many (true ∷ false ∷ []) None 0 true)
+    × (IsStill (of_many (false ∷ false ∷ []) None 0 false) (of_many (false ∷ []) None 0 false) → ⊥)
+    × (IsStill (of_one (false ∷ []) None 0 false) (of_many (false ∷ []) None 0 false) → ⊥)
+    × (IsStill (of_merge (from_box 3 0 ∷ []) false) (of_merge (from_box 5 0 ∷ []) false) → ⊥)
+
+-- the rows of all its mailboxes have so many fields, where it has a sender; of a merge one frame of each sender may be held
+abbrev pub MailboxesHaveWidth : Type 0
+MailboxesHaveWidth = ComesAs (λ m. m) (of_one (false ∷ []) None 0 false) 4 × (ComesAs (λ m. m) (of_one (false ∷ []) None 0 false) 3 → ⊥)
+    × ComesAs (λ m. m) (of_one [] None 0 false) 3 × (ComesAs (λ m. m) (of_merge (from_box 3 0 ∷ from_box 5 0 ∷ []) false) 3 → ⊥)
+    × (most (of_one (false ∷ []) None 0 false) ≡ 1) × (most (of_merge (from_box 3 0 ∷ from_box 5 0 ∷ []) false) ≡ 2)

@@ -2,7 +2,8 @@
 use Rattle.std.specs.Prelude.{◌≡◌, ◌≢◌, ◌⊎◌, ◌<◌, ◌≤◌, ◌+◌, ◌-◌, ℕ, nat_eq, nat_lt, Bool, true, false, ◌&&◌, ◌||◌, List, [], ◌∷◌, ◌++◌, map, filter, length, drop, slice_index_or, Option, Some, None}
 use Rattle.hy_frame.specs.Bank.{BankOf}
 use Rattle.hy_frame.specs.Frame.{FrameOf}
-use Rattle.hy_frame.specs.Row.{Fields}
+use Rattle.hy_frame.specs.FrameText.{AllRows}
+use Rattle.hy_frame.specs.Row.{Fields, IsRow}
 use Rattle.hy_rest.specs.Rest.{Continues}
 use Rattle.hy_job.specs.Runs.{Taken as TakenRow, rows_at}
 use Rattle.hy_mail.specs.declared.parcel.Parcel.TheVariants as P
@@ -11,9 +12,9 @@ use Rattle.hy_driver.specs.Rows.{Row, values_of}
 use Rattle.hy_connect.specs.Outlets.{held_in}
 use Rattle.hy_connect.specs.declared.taker.Taken.{Taken}
 use Rattle.hy_connect.specs.Takers.{HaveClosed, IsGoing, TellsTaken}
-use Rattle.hy_connect.specs.Sources.{AllClosed, Brings, IsWanted, NoneAtHand, Returns, frame_rows, frames_held}
+use Rattle.hy_connect.specs.Sources.{AllClosed, Brings, HoldRows, IsWanted, NoneAtHand, Returns, frame_rows, frames_held}
 use Rattle.hy_connect.specs.Merges as M
-use Rattle.hy_connect.specs.Merges.{BeginsBy, MergerOf, current_row, may_give, rows_taken, senders, source}
+use Rattle.hy_connect.specs.Merges.{BeginsBy, MergerOf, StaysMerger, current_row, may_give, rows_taken, senders, source}
 use Rattle.hy_input.specs.declared.taker.Taker.{Taker}
 use Rattle.hy_input.specs.declared.taker.Taker.TheVariants as T
 use Rattle.hy_input.specs.declared.input.Came.{Came}
@@ -119,6 +120,19 @@ wants_by (T.Merge m) at_hand = (s : ℕ) × IsWanted m.sources s
 abbrev pub Wants : InputOf → Type 0
 Wants x = wants_by x.taker (hand x)
 
+-- the mailbox that it asks for what comes next; of a merge that of the first sender of which a row is wanted
+abbrev pub asks_by : Taker → ℕ → Type 0
+asks_by (T.One t) m = m ≡ t.mailbox
+asks_by (T.Many t) m = m ≡ t.mailbox
+asks_by (T.Merge g) m = (s : ℕ) × IsWanted g.sources s × (m ≡ (source g s).mailbox)
+
+abbrev pub Asks : InputOf → ℕ → Type 0
+Asks x m = asks_by x.taker m
+
+-- it asks the mailbox of this number for what comes next, which knows a sender in this partition by that number
+abbrev pub IsAsked : InputOf → ℕ → ℕ → ℕ → Type 0
+IsAsked x m n p = IsSent x m n p × Asks x m
+
 -- every sender has closed and no row is at hand
 abbrev pub done_by : Taker → List Fields → Type 0
 done_by (T.One t) at_hand = HaveClosed t.closed × (at_hand ≡ [])
@@ -152,7 +166,49 @@ ReceivesBy receives count (T.One t) = IsGoing t.closed → receives t.mailbox ×
 ReceivesBy receives count (T.Many t) = IsGoing t.closed → receives t.mailbox × (count t.mailbox ≡ length t.closed)
 ReceivesBy receives count (T.Merge m) = (s : ℕ) → s < senders m → receives (source m s).mailbox × (count (source m s).mailbox ≡ 1)
 
+-- ---- rows at hand
+
+-- each is one of so many fields
+abbrev pub hold_by : Taker → List Fields → ℕ → Type 0
+hold_by (T.One t) at_hand width = AllRows width at_hand
+hold_by (T.Many t) at_hand width = AllRows width at_hand
+hold_by (T.Merge m) at_hand width = HoldRows width m.sources
+
+-- a merge has no frame beside those of its senders
+abbrev pub lone_by : Taker → Option FrameOf → Type 0
+lone_by (T.One t) frame = Unit {0}
+lone_by (T.Many t) frame = Unit {0}
+lone_by (T.Merge m) frame = frame ≡ None
+
+pub record HoldsRows (x : InputOf) (width : ℕ) : Type 0 where
+  pub rows : hold_by x.taker (hand x) width
+  pub lone : lone_by x.taker x.frame
+
+-- at most so many frames of a bank are held
+abbrev pub most_by : Taker → ℕ
+most_by (T.One t) = 1
+most_by (T.Many t) = 1
+most_by (T.Merge m) = senders m
+
+abbrev pub most : InputOf → ℕ
+most x = most_by x.taker
+
+-- the rows of its mailboxes have so many fields
+abbrev pub ComesAs : (ℕ → ℕ) → InputOf → ℕ → Type 0
+ComesAs arity x width = (m n p : ℕ) → IsSent x m n p → arity m ≡ width
+
 -- ---- calls
+
+-- what no call changes
+abbrev pub still_by : Taker → Taker → Type 0
+still_by (T.One t) (T.One t') = (t'.mailbox ≡ t.mailbox) × (length t'.closed ≡ length t.closed)
+still_by (T.Many t) (T.Many t') = (t'.mailbox ≡ t.mailbox) × (length t'.closed ≡ length t.closed)
+still_by (T.Merge m) (T.Merge m') = StaysMerger m m'
+still_by _ _ = ⊥
+
+pub record IsStill (old new : InputOf) : Type 0 where
+  pub taker : still_by old.taker new.taker
+  pub from : new.from ≡ old.from
 
 -- its senders are what they were
 pub record Stays (old new : InputOf) : Type 0 where
@@ -213,6 +269,12 @@ abbrev pub TellsAdvanced : InputOf → InputOf → Bool → Type 0
 TellsAdvanced old new true = Gives old new
 TellsAdvanced old new false = IsOver old new
 
+-- rows at hand stay rows of so many fields, and so is the one that it went on to; where none comes any more, no frame is held
+pub record KeepsRows (width : ℕ) (old new : InputOf) (some : Bool) : Type 0 where
+  pub holds : HoldsRows new width
+  pub row : some ≡ true → IsRow width (given new)
+  pub empty : some ≡ false → held new ≡ 0
+
 -- rows came to hand, or were given back at once
 abbrev pub TellsRows : FrameOf → ℕ → InputOf → InputOf → Bool → Type 0
 TellsRows f p old new false = Gets f p old new
@@ -220,11 +282,11 @@ TellsRows f p old new true = Drops old new
 
 -- what an answer of `take` tells
 abbrev pub TellsCame : {P : Type 0} → (P → Event → P → Type 0) → P → P → InputOf → InputOf → Came → Type 0
-TellsCame happens port port' old new C.Empty = (m n p : ℕ) × IsSent old m n p × Rests old new × happens port (Empty m) port'
-TellsCame happens port port' old new C.Rows = (m n p : ℕ) × (f : FrameOf) × IsSent old m n p × TellsRows f p old new (has_given_up old) × happens port (Took m n (P.Frame f)) port'
+TellsCame happens port port' old new C.Empty = (m n p : ℕ) × IsAsked old m n p × Rests old new × happens port (Empty m) port'
+TellsCame happens port port' old new C.Rows = (m n p : ℕ) × (f : FrameOf) × IsAsked old m n p × TellsRows f p old new (has_given_up old) × happens port (Took m n (P.Frame f)) port'
 TellsCame happens port port' old new C.Word =
-    (m n p : ℕ) × IsSent old m n p × ((Rests old new × happens port (Took m n P.Open) port') ⊎ (Closes p old new × happens port (Took m n P.Close) port'))
-TellsCame happens port port' old new C.Failed = (m n p : ℕ) × IsSent old m n p × Rests old new × happens port (Took m n P.Fail) port'
+    (m n p : ℕ) × IsAsked old m n p × ((Rests old new × happens port (Took m n P.Open) port') ⊎ (Closes p old new × happens port (Took m n P.Close) port'))
+TellsCame happens port port' old new C.Failed = (m n p : ℕ) × IsAsked old m n p × Rests old new × happens port (Took m n P.Fail) port'
 
 -- what became of the bank of which it holds so many frames: where rows came, a frame came in
 abbrev pub TellsBank : ℕ → ℕ → BankOf → BankOf → Came → Type 0

@@ -1,9 +1,11 @@
 //! One input of a task.
 ghost use Rattle.std.specs.Prelude.{◌≡◌, ◌≢◌, ◌+◌, ◌-◌, ◌<◌, ◌≤◌, ℕ, [], length, slice_index_or, None, Some, true, false};
+ghost use Rattle.hy_frame.specs.FrameText.{AllRows};
+ghost use Rattle.hy_frame.specs.Row.{IsRow};
 ghost use Rattle.hy_connect.specs.Outlets.{held_in};
-ghost use Rattle.hy_connect.specs.Sources.{IsWanted, Returns, frame_rows, frames_held};
+ghost use Rattle.hy_connect.specs.Sources.{HoldRows, IsWanted, Returns, frame_rows, frames_held};
 ghost use Rattle.hy_connect.specs.Merges.{senders, source};
-ghost use Rattle.hy_input.specs.Inputs.{GivesUp, HasEnded, HasGiven, HasOne, ReceivesBy, TellsAdvanced, TellsBank, TellsCame, TellsTakenOfMerge, Wants, given, hand, held, held_by, input_of, kept_by};
+ghost use Rattle.hy_input.specs.Inputs.{ComesAs, GivesUp, HasEnded, HasGiven, HasOne, HoldsRows, IsStill, KeepsRows, ReceivesBy, TellsAdvanced, TellsBank, TellsCame, TellsTakenOfMerge, Wants, given, hand, has_given_up, held, held_by, input_of, kept_by};
 
 use crate::taker::{Taker, take_plain};
 use hy_connect::{MergeTaker, Merged, Taken};
@@ -98,7 +100,8 @@ impl Input {
     /// The row that `advance` went on to.
     pub fn row(&self) -> RowRef<'_>
         requires { HasGiven self.now }
-        ensures { result ≡ given self.now }
+        ensures row { result ≡ given self.now }
+        ensures fields { IsRow (length (given self.now)) (given self.now) }
     {
         match &self.taker {
             Taker::One(_) => row_before(&self.frame, self.next),
@@ -113,6 +116,8 @@ impl Input {
         requires ready { Wants self.old → ⊥ }
         requires held { held self.old ≤ bank.old.out }
         ensures told { TellsAdvanced self.old self.new result }
+        ensures still { IsStill self.old self.new }
+        ensures rows { (width : ℕ) → HoldsRows self.old width → KeepsRows width self.old self.new result }
         ensures bank { Returns (held self.old) (held self.new) bank.old bank.new }
     {
         if let Taker::Merge(taker) = &mut self.taker {
@@ -153,6 +158,9 @@ impl Input {
         requires held { held self.old ≤ bank.old.out }
         requires room { bank.old.out < bank.old.limit }
         ensures told { TellsCame P.happens port.old port.new self.old self.new result }
+        ensures still { IsStill self.old self.new }
+        ensures rows { (width : ℕ) → ComesAs (P.arity port.old) self.old width → HoldsRows self.old width → HoldsRows self.new width }
+        ensures none { has_given_up self.old ≡ true → held self.old ≡ 0 → held self.new ≡ 0 }
         ensures bank { TellsBank (held self.old) (held self.new) bank.old bank.new result }
         ensures kept { P.keeps port.old port.new }
     {
@@ -177,8 +185,11 @@ impl Input {
         requires none { self.old.frame ≡ None }
         requires out { 0 < bank.old.out }
         ensures input { self.new ≡ kept_by self.old.given_up frame self.old }
+        ensures rows { AllRows frame.arity frame.rows }
         ensures bank { Returns (1 + held_by self.old.taker) (held self.new) bank.old bank.new }
     {
+        // Its count tells what the frame's rows are.
+        let _rows = frame.rows();
         if self.given_up {
             bank.give(frame);
             return;
@@ -203,6 +214,8 @@ impl Input {
     pub fn give_up(&mut self, bank: &mut Bank)
         requires { held self.old ≤ bank.old.out }
         ensures told { GivesUp self.old self.new }
+        ensures still { IsStill self.old self.new }
+        ensures rows { (width : ℕ) → HoldsRows self.old width → HoldsRows self.new width }
         ensures bank { Returns (held self.old) 0 bank.old bank.new }
     {
         self.let_go(bank);
@@ -217,7 +230,8 @@ impl Input {
 fn row_before(frame: &Option<Frame>, next: usize) -> RowRef<'_>
     requires some { 0 < next }
     requires there { next ≤ length (frame_rows frame.now) }
-    ensures { result ≡ slice_index_or (frame_rows frame.now) (next - 1) [] }
+    ensures row { result ≡ slice_index_or (frame_rows frame.now) (next - 1) [] }
+    ensures fields { IsRow (length (slice_index_or (frame_rows frame.now) (next - 1) [])) (slice_index_or (frame_rows frame.now) (next - 1) []) }
 {
     let Some(frame) = frame else { unreachable!() };
     frame.row(next - 1)
@@ -230,6 +244,8 @@ fn take_merged<P: Port>(taker: &mut MergeTaker, port: &mut P, bank: &mut Bank) -
     requires held { frames_held taker.old.sources ≤ bank.old.out }
     requires room { bank.old.out < bank.old.limit }
     ensures told { TellsTakenOfMerge P.happens port.old port.new taker.old taker.new result }
+    ensures rows { (width : ℕ) → ((s : ℕ) → s < senders taker.old → P.arity port.old (source taker.old s).mailbox ≡ width) → HoldRows width taker.old.sources → HoldRows width taker.new.sources }
+    ensures frames { taker.old.given_up ≡ true → frames_held taker.new.sources ≤ frames_held taker.old.sources }
     ensures bank { TellsBank (frames_held taker.old.sources) (frames_held taker.new.sources) bank.old bank.new result }
     ensures kept { P.keeps port.old port.new }
 {

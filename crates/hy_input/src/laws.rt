@@ -1,7 +1,7 @@
 //! What an input brings from its beginning to its end, and worked cases. Its functions do nothing: their
 //! clauses are what they are for.
 ghost use Rattle.hy_input.specs.Laws.{AreBrought, DoneBringNone, NewBringWire};
-ghost use Rattle.hy_input.specs.Cases.{CloseCountsOnce, CloseIsItsSenders, DoneWhereNoneIsLeft, FramesAreHeld, FramesComeWhole, GivingUpKeepsNone, HandIsBrought, LesserIsBrought, OpenSendersSend, RowsComeOneByOne, RowsHaveWidth, SendersHavePartitions, WantedWhereNoneIsLeft};
+ghost use Rattle.hy_input.specs.Cases.{CloseCountsOnce, CloseIsItsSenders, DoneWhereNoneIsLeft, FirstBareIsAsked, FramesAreHeld, FramesComeWhole, GivingUpKeepsNone, HandIsBrought, LesserIsBrought, MailboxesHaveWidth, OpenSendersSend, RowsAreHeld, RowsAreKept, RowsComeOneByOne, RowsHaveWidth, SendersHavePartitions, SendersStay, WantedWhereNoneIsLeft};
 
 /// A new input brings what comes by its wire, each one brings rows for all that may still come, and one
 /// that is done brings none. It does nothing: its clauses speak of every input.
@@ -26,4 +26,9 @@ pub fn input_cases()
     ensures gives_up { GivingUpKeepsNone }
     ensures may { OpenSendersSend }
     ensures width { RowsHaveWidth }
+    ensures asked { FirstBareIsAsked }
+    ensures rows { RowsAreHeld }
+    ensures kept { RowsAreKept }
+    ensures still { SendersStay }
+    ensures boxes { MailboxesHaveWidth }
 {}

@@ -189,6 +189,8 @@ impl Output {
         ensures filling { self.new.filling ≡ None }
         ensures bank { Lent (held self.old) 0 bank.old bank.new }
         ensures told { Fails self.old.way self.new.way }
+        ensures arity { self.new.arity ≡ self.old.arity }
+        ensures unit { self.new.unit ≡ self.old.unit }
     {
         if let Some(frame) = self.filling.take() {
             bank.give(frame);
@@ -207,6 +209,8 @@ impl Output {
         ensures bank { Lent (held self.old) 0 bank.old bank.new }
         ensures told { Closes self.old.way self.new.way }
         ensures posts { Posts Parcel.Close self.old.way self.new.way }
+        ensures arity { self.new.arity ≡ self.old.arity }
+        ensures unit { self.new.unit ≡ self.old.unit }
     {
         self.way.close(bank);
     }
