@@ -12,11 +12,11 @@ use Rattle.hy_driver.specs.Rows.{Row}
 use Rattle.hy_connect.specs.declared.route.Route.{Route}
 use Rattle.hy_connect.specs.declared.route.Route.TheVariants as R
 use Rattle.hy_connect.specs.Routes.{fills}
-use Rattle.hy_connect.specs.Outlets.{OutletOf, Exports, Lent, Pops, blank, closed, failed, flushed, flushed_with, frames_waiting, held_of, outlet_at, posted}
+use Rattle.hy_connect.specs.Outlets.{OutletOf, Exports, Lent, Pops, blank, closed, failed, flushed, flushed_with, frames_waiting, held_in, held_of, outlet_at, posted}
 use Rattle.hy_connect.specs.Many.{Each, FillNone, HaveRoom, HaveRoomToo, MoreWait, Rips, Spreads}
 use Rattle.hy_connect.specs.Writers.{AddsParcels, Fails, IsAsFar, IsWriter, SendsOn, Tears, TellsWritten, WriterOf, Writes, reserve, writer_of}
 use Rattle.hy_connect.proofs.Exporting.{waiting_opened}
-use Rattle.hy_connect.proofs.Held.{held_none, held_same}
+use Rattle.hy_connect.proofs.Held.{held_none, held_same, held_set}
 use Rattle.hy_connect.proofs.Writing.{closed_none, closed_quiet, closes, closing_room, far_same, failed_fails, failed_none, failed_quiet, failed_stays, opened_stays, opened_writes, pops_far, pops_sends, rips_tears, spread_writes}
 
 pub posted_parcels : (p : Parcel) (o : OutletOf) → length (posted p o).waits ≤ length o.waits + 1
@@ -212,6 +212,15 @@ put_words self route arity unit xs s k p old new word word' view is low e h afte
     pops_far route arity unit xs s k p new word word' is low (subst (λ (o : OutletOf). Pops o p new) e h)
     (λ m. after m ∙ ap (λ (o : OutletOf). word_after (Put o.mailbox p) m (word m)) e)
     (subst (IsAsFar word) (sym view) far)
+
+-- as many frames are being filled as were
+pub put_held : (self : WriterOf) (route : Route) (arity unit : ℕ) (xs : List OutletOf) (s : WriterState) (k : ℕ) (old new : OutletOf) → writer_of route arity unit xs s ≡ self → k < length xs → old ≡ outlet_at xs k → new.filling ≡ old.filling
+    → held_of (set xs k new) ≡ held_of self.outlets
+put_held self route arity unit xs s k old new view low e same =
+    let h = held_set xs k new low in
+    let f : held_in new.filling ≡ held_in (outlet_at xs k).filling = ap held_in (same ∙ ap (λ (o : OutletOf). o.filling) e) in
+    let v : held_of xs ≡ held_of self.outlets = ap (λ (w : WriterOf). held_of w.outlets) view in
+    omega arith
 
 -- nothing was put, and the words are as they were
 pub full_words : (self : WriterOf) (route : Route) (arity unit : ℕ) (xs : List OutletOf) (s : WriterState) (k : ℕ) (old new : OutletOf) (word word' : ℕ → WriterState) → writer_of route arity unit xs s ≡ self → k < length xs → old ≡ outlet_at xs k → new ≡ old

@@ -296,7 +296,7 @@ kept_none : {P : Type 0} (happens : P → Event → P → Type 0) (port port' : 
 kept_none happens port port' a b up d x T.Empty gave t = ap (λ (y : SourceOf). held_in y.frame) t.0
 kept_none happens port port' a b up d x (T.Frame f) gave t = ap (λ (y : SourceOf). held_in y.frame) t.1
 kept_none happens port port' a b up d x T.Kept gave t = absurd (no_bool (sym gave ∙ t.0))
-kept_none happens port port' a b up d x T.Word gave t = elim t.1 [ | inl o ↦ ap (λ (y : SourceOf). held_in y.frame) o.0 | inr c ↦ ap (λ (y : SourceOf). held_in y.frame) c.0 ]
+kept_none happens port port' a b up d x T.Word gave t = elim t.1 [ inl o ↦ ap (λ (y : SourceOf). held_in y.frame) o.0 | inr c ↦ ap (λ (y : SourceOf). held_in y.frame) c.0 ]
 kept_none happens port port' a b up d x T.Failed gave t = ap (λ (y : SourceOf). held_in y.frame) t.0
 kept_none happens port port' a b up d x T.Ended gave t = absurd t
 

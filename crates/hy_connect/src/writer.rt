@@ -100,6 +100,7 @@ impl WireWriter {
         requires words { IsAsFar (P.word port.old) self.old }
         ensures told { TellsOffer P.happens port.old port.new self.old self.new result }
         ensures words { IsAsFar (P.word port.new) self.new }
+        ensures held { held_of self.new.outlets ≡ held_of self.old.outlets }
         ensures kept { P.keeps port.old port.new }
     {
         let Some(k) = next_waiting(&self.outlets) else {

@@ -101,7 +101,7 @@ as_was t t' e = (ap (λ (x : TakerOf). x.mailbox) e, ap (λ (x : TakerOf). lengt
 
 -- ---- frames
 
-frame_most : (f : Option FrameOf) → held_in f ≤ 1
+pub frame_most : (f : Option FrameOf) → held_in f ≤ 1
 frame_most None = omega arith
 frame_most (Some f) = omega arith
 
@@ -253,7 +253,7 @@ module _ {P : Type 0} (happens : P → Event → P → Type 0) (port port' : P) 
       rows_still : (m m' : MergerOf) (s : ℕ) (f : FrameOf) (b : Bool) → TellsRowsOfMerge s f m m' b → StaysMerger m m'
       rows_still m m' s f true h = h.still
       rows_still m m' s f false h = h.still
-  came_still m m' from frame next up C.Word h = record { taker = elim h.2 [ | inl o ↦ o.0.still | inr c ↦ c.0.still ]; from = refl }
+  came_still m m' from frame next up C.Word h = record { taker = elim h.2 [ inl o ↦ o.0.still | inr c ↦ c.0.still ]; from = refl }
   came_still m m' from frame next up C.Failed h = record { taker = h.2.still; from = refl }
 
   -- ---- of any
@@ -266,7 +266,7 @@ module _ {P : Type 0} (happens : P → Event → P → Type 0) (port port' : P) 
       rows_up : (old new : InputOf) (f : FrameOf) (p : ℕ) (b : Bool) → TellsRows f p old new b → has_given_up new ≡ has_given_up old
       rows_up old new f p true h = h.given_up
       rows_up old new f p false h = h.given_up
-  came_given_up old new C.Word t = elim t.4 [ | inl o ↦ o.0.given_up | inr c ↦ c.0.given_up ]
+  came_given_up old new C.Word t = elim t.4 [ inl o ↦ o.0.given_up | inr c ↦ c.0.given_up ]
   came_given_up old new C.Failed t = t.4.given_up
 
 -- ---- what comes, of an input that is seen whole

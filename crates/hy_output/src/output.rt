@@ -222,6 +222,7 @@ impl Output {
         requires words { AreAsFar (P.word port.old) self.old.way }
         ensures told { TellsOffer P.happens port.old port.new self.old.way self.new.way result }
         ensures rest { self.new ≡ output_of self.old.arity self.old.unit self.old.filling self.new.way }
+        ensures held { held self.new ≡ held self.old }
         ensures words { AreAsFar (P.word port.new) self.new.way }
         ensures kept { P.keeps port.old port.new }
     {

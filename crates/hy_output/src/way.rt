@@ -120,6 +120,7 @@ impl Way {
         requires arity { (k : ℕ) → k < places self.old → HasArity (P.arity port.old (mailbox_at self.old k)) self.old }
         requires words { AreAsFar (P.word port.old) self.old }
         ensures told { TellsOffer P.happens port.old port.new self.old self.new result }
+        ensures held { held_by self.new ≡ held_by self.old }
         ensures words { AreAsFar (P.word port.new) self.new }
         ensures kept { P.keeps port.old port.new }
     {

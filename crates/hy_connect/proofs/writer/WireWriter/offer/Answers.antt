@@ -2,7 +2,7 @@ use Rattle.std.proofs.Common.{◌<◌, ℕ, List, length, subst, ap, ◌∙◌, 
 use Rattle.hy_mail.specs.Events.{Full, Put}
 use Rattle.hy_connect.specs.Outlets.{OutletOf, outlet_at}
 use Rattle.hy_connect.specs.Writers.{WriterOf}
-use Rattle.hy_connect.proofs.Closing.{full_words, put_told, put_words}
+use Rattle.hy_connect.proofs.Closing.{full_words, put_held, put_told, put_words}
 use Rattle.hy_connect.proofs.Fronts.{read_at}
 use Rattle.hy_connect.proofs.writer.WireWriter.offer.Goals as goal
 
@@ -47,3 +47,25 @@ returns-clause-words g c =
     let full = c.put_first.ensures.full c.if-put_first.false in
     full_words c.args.self.now i.route i.arity i.unit xs i.state k c.index_mut.result.now c.put_first.new.outlet (g.P.Port.word c.args.port.now) (g.P.Port.word c.put_first.new.port) c.self.view_is low here full.0
     (λ m. g.met.P.Port.words c.args.port.now c.put_first.new.port (Full c.index_mut.result.now.mailbox) m full.1) c.requires.words
+
+pub returns-then-put_first-clause-held : goal.returns-then-put_first-clause-held
+returns-then-put_first-clause-held g c =
+    let i = c.self.inside in
+    let xs = i.outlets.items in
+    let k = c.in-Some.k in
+    let value = c.deref.ensures.value in
+    let there = c.in-Some.ensures.there in
+    let low : k < length xs = omega (arith, ap (λ (l : List OutletOf). length l) value) in
+    let here = c.index_mut.ensures.value ∙ read_at xs k c.index_mut.result.now low in
+    put_held c.args.self.now i.route i.arity i.unit xs i.state k c.index_mut.result.now c.put_first.new.outlet c.self.view_is low here (c.put_first.ensures.put c.if-put_first.true).1.filling
+
+pub returns-clause-held : goal.returns-clause-held
+returns-clause-held g c =
+    let i = c.self.inside in
+    let xs = i.outlets.items in
+    let k = c.in-Some.k in
+    let value = c.deref.ensures.value in
+    let there = c.in-Some.ensures.there in
+    let low : k < length xs = omega (arith, ap (λ (l : List OutletOf). length l) value) in
+    let here = c.index_mut.ensures.value ∙ read_at xs k c.index_mut.result.now low in
+    put_held c.args.self.now i.route i.arity i.unit xs i.state k c.index_mut.result.now c.put_first.new.outlet c.self.view_is low here (ap (λ (o : OutletOf). o.filling) (c.put_first.ensures.full c.if-put_first.false).0)

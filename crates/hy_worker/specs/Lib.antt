@@ -1,0 +1,4 @@
+pub mod Worker
+pub mod Calls
+pub mod Laws
+pub mod Cases
