@@ -1,0 +1,5 @@
+pub mod Making
+pub mod SoundLaws
+pub mod More
+pub mod Leaving
+pub mod CaseProofs

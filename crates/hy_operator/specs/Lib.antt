@@ -1,0 +1,4 @@
+pub mod Kinds
+pub mod Begins
+pub mod Laws
+pub mod Cases
