@@ -1,17 +1,18 @@
 -- The worked cases of operators.
-use Rattle.std.proofs.Common.{◌≡◌, ◌<◌, ◌≤◌, ℕ, true, false, List, [], ◌∷◌, length, refl, ap, arith}
+use Rattle.std.proofs.Common.{◌≡◌, ◌<◌, ◌≤◌, ℕ, true, false, Option, Some, None, List, [], ◌∷◌, length, refl, ap, arith}
 use Rattle.std.specs.List.{All, AllByRecursion}
 use Rattle.std.proofs.lemmas.List.Elements.{All-from_recursion, recursion_from_All}
 use Rattle.hy_frame.specs.Row.{Fields}
 use Rattle.hy_driver.specs.Forms.{one_ended}
 use Rattle.hy_driver.specs.Rows.{Row}
+use Rattle.hy_driver.specs.Seen.{Check}
 use Rattle.hy_driver.proofs.Forms.{all_ended}
 use Rattle.hy_job.specs.declared.job.Kind.TheVariants as K
 use Rattle.hy_stream.specs.Source.{nothing_out, one_row, source_fixed}
 use Rattle.hy_stream.proofs.SourceLaws.{one_owed, source_new}
 use Rattle.hy_operator.specs.Begins.{Begins, IsFixed, width_at}
 use Rattle.hy_operator.specs.Kinds.{StandsBeside, Suits}
-use Rattle.hy_operator.specs.Cases.{DistinctIsHandedKeys, EachIsGivenItsOwn, FirstOnesHandOn, OneBeginsInFirst, RowsAreHanded, ProjectSuits, TurnsAreCounted, UnionSuits, WantedIsThere, handed_of, shape_of, two_partitions}
+use Rattle.hy_operator.specs.Cases.{ChecksAreNamed, DistinctIsHandedKeys, EachIsGivenItsOwn, FirstOnesHandOn, KindsAreTold, ListedIfThere, OneBeginsInFirst, RowsAreHanded, ProjectSuits, SettingsAreKept, TurnsAreCounted, UnionSuits, WantedIsThere, handed_of, shape_of, two_partitions}
 use Rattle.hy_operator.proofs.Making.{none_goes, none_wide}
 
 pub each_is_given : EachIsGivenItsOwn
@@ -78,3 +79,19 @@ one_begins = (
 
 pub turns_are_counted : TurnsAreCounted
 turns_are_counted = (refl, refl, refl, refl)
+
+pub kinds_are_told : KindsAreTold
+kinds_are_told = (refl, refl, refl, refl, refl)
+
+pub listed_if_there : ListedIfThere
+listed_if_there = (refl, refl)
+
+abbrev first_of_name : Option Check → ℕ
+first_of_name (Some ((x ∷ xs), test)) = x
+first_of_name _ = 0
+
+pub checks_are_named : ChecksAreNamed
+checks_are_named = (refl, λ h. (let same : 7 ≡ 8 = ap first_of_name h in absurd (omega (arith, same))), refl)
+
+pub settings_are_kept : SettingsAreKept
+settings_are_kept = (one_made, λ h. (let size : 512 ≡ 256 = h.unit in absurd (omega (arith, size))))

@@ -9,13 +9,14 @@ use Rattle.hy_driver.specs.declared.phase.Phase.TheVariants.{Working}
 use Rattle.hy_job.specs.declared.job.GroupArg.{GroupArg}
 use Rattle.hy_job.specs.declared.job.JoinArg.{JoinArg}
 use Rattle.hy_job.specs.declared.job.Kind.TheVariants as K
+use Rattle.hy_job.specs.Columns.{holds}
 use Rattle.hy_job.specs.Sound.{is_second}
 use Rattle.hy_rows.specs.State.{row_state}
 use Rattle.hy_driver.specs.Forms.{one_ended}
 use Rattle.hy_stream.specs.Source.{nothing_out, one_row, source_fixed}
 use Rattle.hy_operator.specs.declared.input.RowShape.{RowShape}
-use Rattle.hy_operator.specs.Begins.{Begins, cost_of, width_at}
-use Rattle.hy_operator.specs.Kinds.{IsHandedGroups, StandsBeside, Suits, There, hands_rows, has_store}
+use Rattle.hy_operator.specs.Begins.{Begins, IsFixed, check_of, cost_of, listed, width_at}
+use Rattle.hy_operator.specs.Kinds.{IsHandedGroups, StandsBeside, Suits, There, hands_rows, has_store, is_alone, works_on_rows}
 
 abbrev pub shape_of : ℕ → ℕ → ℕ → ℕ → RowShape
 shape_of left right handed arity = record { left = left; right = right; handed = handed; arity = arity }
@@ -40,10 +41,18 @@ abbrev pub FirstOnesHandOn : Type 0
 FirstOnesHandOn = (hands_rows (K.SortBuild []) ≡ true) × (hands_rows (K.SortEmit []) ≡ false) × (hands_rows (K.GroupBuild distinct) ≡ true)
     × (hands_rows (K.GroupEmit distinct) ≡ false) × (hands_rows (K.JoinProbe on_first) ≡ false) × (hands_rows K.One ≡ false)
 
+-- a select works on each row alone and is given nothing beside its kind, and neither a join's build nor a scan does
+abbrev pub KindsAreTold : Type 0
+KindsAreTold = (works_on_rows (K.Select (R.Col 0)) ≡ true) × (works_on_rows K.One ≡ false) × (is_alone (K.Select (R.Col 0)) ≡ true) × (is_alone (K.JoinBuild on_first) ≡ false) × (is_alone (K.Scan []) ≡ false)
+
 -- what is wanted has to be there, and nothing else
 abbrev pub WantedIsThere : Type 0
 WantedIsThere = There {A = ℕ} true (Some 3) (λ n. n ≡ 3) × (There {A = ℕ} true (Some 3) (λ n. n ≡ 4) → ⊥) × (There {A = ℕ} true None (λ n. Unit {0}) → ⊥)
     × There {A = ℕ} false None (λ n. ⊥) × (There {A = ℕ} false (Some 3) (λ n. n ≡ 3) → ⊥)
+
+-- nothing is listed of what isn't there
+abbrev pub ListedIfThere : Type 0
+ListedIfThere = (listed {A = ℕ} (λ n. n ∷ []) (Some 3) ≡ 3 ∷ []) × (listed {A = ℕ} (λ n. n ∷ []) None ≡ [])
 
 abbrev pub handed_of : List Fields → List ℕ → Handed
 handed_of rows runs = record { rows = rows; frames = []; runs = runs }
@@ -81,3 +90,11 @@ OneBeginsInFirst = Begins K.One two_partitions 0 (shape_of 0 0 0 0) [] [] no_sto
 -- a probe may be put off by each row that was handed, an unnest by each item of a list, and a select by its row
 abbrev pub TurnsAreCounted : Type 0
 TurnsAreCounted = (cost_of (K.JoinProbe on_first) 3 ≡ 5) × (cost_of (K.Select (R.Col 0)) 3 ≡ 2) × (cost_of (K.Limit 1 1) 0 ≡ 2) × (cost_of K.One 0 ≡ 1)
+
+-- a check has its own name, and nothing else has one
+abbrev pub ChecksAreNamed : Type 0
+ChecksAreNamed = (check_of (K.Check (7 ∷ []) (R.Col 0)) ≡ Some (7 ∷ [], holds (R.Col 0))) × (check_of (K.Check (7 ∷ []) (R.Col 0)) ≡ Some (8 ∷ [], holds (R.Col 0)) → ⊥) × (check_of (K.Select (R.Col 0)) ≡ None)
+
+-- frames are of the settings' size
+abbrev pub SettingsAreKept : Type 0
+SettingsAreKept = IsFixed K.One two_partitions (shape_of 0 0 0 0) 0 (source_fixed 256 3 0) × (IsFixed K.One two_partitions (shape_of 0 0 0 0) 0 (source_fixed 512 3 0) → ⊥)

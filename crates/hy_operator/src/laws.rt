@@ -1,6 +1,6 @@
 //! What holds of the operators of sound jobs, and worked cases.
 
-ghost use Rattle.hy_operator.specs.Cases.{DistinctIsHandedKeys, EachIsGivenItsOwn, FirstOnesHandOn, OneBeginsInFirst, RowsAreHanded, ProjectSuits, TurnsAreCounted, UnionSuits, WantedIsThere};
+ghost use Rattle.hy_operator.specs.Cases.{ChecksAreNamed, DistinctIsHandedKeys, EachIsGivenItsOwn, FirstOnesHandOn, KindsAreTold, ListedIfThere, OneBeginsInFirst, RowsAreHanded, ProjectSuits, SettingsAreKept, TurnsAreCounted, UnionSuits, WantedIsThere};
 ghost use Rattle.hy_operator.specs.Laws.{ActivitiesFit};
 
 /// An activity of a sound job fits the rows that it sees, so that its operator may be made. It does
@@ -21,4 +21,8 @@ pub fn operator_cases()
     ensures union_ { UnionSuits }
     ensures one { OneBeginsInFirst }
     ensures turns { TurnsAreCounted }
+    ensures kinds { KindsAreTold }
+    ensures listed { ListedIfThere }
+    ensures checks { ChecksAreNamed }
+    ensures settings { SettingsAreKept }
 {}
