@@ -8,6 +8,8 @@ mod commands;
 #[cfg(test)]
 mod compiling;
 #[cfg(test)]
+mod conjuncts;
+#[cfg(test)]
 mod edges;
 #[cfg(test)]
 mod evaluations;

@@ -6,3 +6,4 @@ pub mod OneCut
 pub mod OneWalk
 pub mod OneTrace
 pub mod TraceCases
+pub mod RoomLaws

@@ -3,6 +3,7 @@
 
 mod laws;
 mod optimiser;
+mod room;
 
-pub use laws::{trace_cases, trace_laws};
+pub use laws::{room_cases, trace_cases, trace_laws};
 pub use optimiser::optimise;

@@ -1,13 +1,15 @@
 //! The optimiser.
 
-ghost use Rattle.std.specs.Prelude.{◌≡◌, IfOk, true, false};
+ghost use Rattle.std.specs.Prelude.{◌≡◌, ◌≤◌, IfOk, true, false};
 ghost use Rattle.al_plan.specs.Refines.{Fit, Refines};
 ghost use Rattle.al_rule.specs.Driven.{Drove};
 ghost use Rattle.al_rule.specs.Rules.{Stuck};
 ghost use Rattle.al_opt.specs.Determined.{IsOnlyTrace};
 ghost use Rattle.al_opt.specs.Optimised.{LegalTrace, Reaches};
+ghost use Rattle.al_opt.specs.Room.{parts};
 ghost use Rattle.al_rules_select.specs.Sets.{split_rules};
 
+use crate::room::room_beside;
 use al_plan::Plan;
 use al_rule::{RuleSet, Trace, drive_fixpoint, drive_once};
 use al_rules_group::GroupSet;
@@ -17,6 +19,9 @@ use al_rules_prune::PruneSet;
 use al_rules_select::{SelectSet, SplitSet, split_laws};
 use al_value::{Boxed, NoMemory};
 use std::alloc::Global;
+
+/// The operators and conjuncts outside nested plans that a plan may have.
+const MOST_PARTS: usize = 1_200;
 
 fn copied(alloc: Global, p: &Plan) -> Result<Boxed<Plan>, NoMemory>
     ensures { IfOk result (λ q. q ≡ p.now) }
@@ -62,10 +67,8 @@ fn split(alloc: Global, p: Boxed<Plan>, t: &mut Trace) -> Result<Boxed<Plan>, No
     }
 }
 
-/// Rewrites a plan by the sets of rules, in their order: split once, then select, join, select
-/// again, order, group and prune, each until none of its rules matches. The trace has each step,
-/// and the plan that is given determines it and what it leads to.
-pub fn optimise(alloc: Global, p: &Plan) -> Result<(Plan, Trace), NoMemory>
+/// Drives the sets in their order.
+fn drive(alloc: Global, p: &Plan) -> Result<(Plan, Trace), NoMemory>
     requires { Fit p.now }
     ensures legal { IfOk result (λ both. LegalTrace p.now both.1.steps both.0) }
     ensures only { IfOk result (λ both. IsOnlyTrace p.now both.1.steps both.0) }
@@ -82,4 +85,24 @@ pub fn optimise(alloc: Global, p: &Plan) -> Result<(Plan, Trace), NoMemory>
     let q = exhaust(alloc, &PruneSet, q, &mut trace)?;
     let q = q.into_inner();
     Ok((q, trace))
+}
+
+/// Rewrites a plan by the sets of rules, in their order: split once, then select, join, select
+/// again, order, group and prune, each until none of its rules matches. The trace has each step,
+/// and the plan that is given determines it and what it leads to.
+///
+/// A rewritten plan may be as deep as the plan has operators and conjuncts, and the work on plans
+/// takes stack for each level. So a plan with more than 1,200 of them is answered as one that
+/// memory is wanted for.
+pub fn optimise(alloc: Global, p: &Plan) -> Result<(Plan, Trace), NoMemory>
+    requires { Fit p.now }
+    ensures legal { IfOk result (λ both. LegalTrace p.now both.1.steps both.0) }
+    ensures only { IfOk result (λ both. IsOnlyTrace p.now both.1.steps both.0) }
+    ensures refines { IfOk result (λ both. Refines both.0 p.now) }
+    ensures room { IfOk result (λ both. parts p.now ≤ 1200) }
+{
+    match room_beside(p, MOST_PARTS) {
+        Some(_) => drive(alloc, p),
+        None => Err(NoMemory),
+    }
 }

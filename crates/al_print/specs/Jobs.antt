@@ -11,7 +11,6 @@ use Rattle.hy_job.specs.declared.job.Edge.{Edge}
 use Rattle.hy_job.specs.declared.job.Block.{Block}
 use Rattle.hy_job.specs.declared.job.Stage.{Stage}
 use Rattle.hy_job.specs.declared.job.Job.{Job}
-use Rattle.hy_job.specs.Stages.{StageOf}
 
 abbrev pub kind_word : Kind → Bytes
 kind_word (K.Scan set) = codes "scan"
@@ -67,7 +66,3 @@ block_line b = codes "block " ++ (decimal b.before ++ (codes " -> " ++ (decimal 
 -- the text of a job with these stages
 abbrev pub job_text : Job → List Stage → List ℕ
 job_text j ss = codes "job\n" ++ (stage_lines 0 ss ++ (flat_map activity_line j.activities ++ (flat_map wire_line j.edges ++ flat_map block_line j.blocks)))
-
--- the text of a job with the stages that it has
-abbrev pub IsJobText : Job → List ℕ → Type 0
-IsJobText j text = (ss : List Stage) × StageOf j ss × (text ≡ job_text j ss)

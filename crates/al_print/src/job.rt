@@ -2,12 +2,11 @@
 
 ghost use Rattle.std.specs.Prelude.{◌≡◌, ◌++◌, OnOk, IfOk};
 ghost use Rattle.std.specs.List.{flat_map};
-ghost use Rattle.hy_job.specs.Sound.{SoundJob};
 ghost use Rattle.al_print.specs.Jobs as spec;
 
 use crate::trace::push_number;
 use al_value::{List, NoMemory};
-use hy_job::{Activity, Block, Edge, Job, Kind, Stage, Wire, stages};
+use hy_job::{Activity, Block, Edge, Job, Kind, Stage, Wire};
 use std::alloc::Global;
 
 fn kind_word(kind: &Kind) -> &'static str
@@ -145,16 +144,14 @@ fn push_blocks(text: &mut List<u8>, blocks: &[Block]) -> Result<(), NoMemory>
     Ok(())
 }
 
-/// The part of an explanation that shows a job: the line `job`, and a line for each stage with its
-/// activities, each activity, each wire and each block.
-pub fn print_job(alloc: Global, j: &Job) -> Result<List<u8>, NoMemory>
-    requires { SoundJob j.now }
-    ensures { IfOk result (λ text. spec.IsJobText j.now text) }
+/// The part of an explanation that shows a job with its stages: the line `job`, and a line for each
+/// stage with its activities, each activity, each wire and each block.
+pub fn print_job(alloc: Global, j: &Job, stages: &[Stage]) -> Result<List<u8>, NoMemory>
+    ensures { IfOk result (λ text. text ≡ spec.job_text j.now stages.now) }
 {
-    let stages = stages(alloc, j)?;
     let mut text = List::new(alloc);
     text.extend(b"job\n")?;
-    push_stages(&mut text, stages.as_slice())?;
+    push_stages(&mut text, stages)?;
     push_activities(&mut text, j.activities.as_slice())?;
     push_wires(&mut text, j.edges.as_slice())?;
     push_blocks(&mut text, j.blocks.as_slice())?;

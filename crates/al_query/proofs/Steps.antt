@@ -189,10 +189,10 @@ told_explanation files name text partitions f g is h e =
     told_map files (λ fs. TellsPlan (fs name) (Ok f)) (λ fs. TellsExplained fs name partitions (Ok text)) h
     (λ fs plan. record { file = g; plan = subst (IsPlan (fs name)) is plan; steps = e.steps; optimised = e.optimised; phys = e.phys; job = e.job; compiled = e.compiled; stages = e.stages; in_stages = e.in_stages; parts = e.parts })
 
-pub explained_by : (f : PlanFile) (n : ℕ) (steps : List TraceStep) (q : Plan) (ph : Phys) (job : Job) (r : Result Bytes NoMemory) → IsCompiled f.root n steps q ph job
-    → IfOk r (λ text. (ss : List Stage) × StageOf job ss × (text ≡ explanation steps (file_with f q) ph job ss)) → IfOk r (λ text. Explains f n text)
-explained_by f n steps q ph job (Ok text) compiled (ss, in_stages, parts) = record { steps = steps; optimised = q; phys = ph; job = job; compiled = compiled; stages = ss; in_stages = in_stages; parts = parts }
-explained_by f n steps q ph job (Err e) compiled h = h
+pub explained_by : (f : PlanFile) (n : ℕ) (steps : List TraceStep) (q : Plan) (ph : Phys) (job : Job) (ss passed : List Stage) (r : Result Bytes NoMemory) → IsCompiled f.root n steps q ph job → StageOf job ss → passed ≡ ss
+    → IfOk r (λ text. text ≡ explanation steps (file_with f q) ph job passed) → IfOk r (λ text. Explains f n text)
+explained_by f n steps q ph job ss passed (Ok text) compiled in_stages is parts = record { steps = steps; optimised = q; phys = ph; job = job; compiled = compiled; stages = passed; in_stages = subst (StageOf job) (sym is) in_stages; parts = parts }
+explained_by f n steps q ph job ss passed (Err e) compiled in_stages is h = h
 
 -- ---- numbers in their ranges
 

@@ -12,6 +12,7 @@ use al_io::Source;
 use al_plan::PlanFile;
 use al_print::print_explanation;
 use al_value::{List, NoMemory};
+use hy_job::stages;
 use std::alloc::Global;
 
 /// The steps by which the plan of a file is rewritten and the plan that they lead to, with its
@@ -45,6 +46,7 @@ fn explanation_of(alloc: Global, file: &PlanFile, partitions: u32) -> Result<Lis
     ensures { IfOk result (λ text. Explains file.now partitions text) }
 {
     let parts = compile_plan(alloc, &file.root, partitions)?;
+    let stages = stages(alloc, &parts.job)?;
     print_explanation(
         alloc,
         &parts.trace,
@@ -52,5 +54,6 @@ fn explanation_of(alloc: Global, file: &PlanFile, partitions: u32) -> Result<Lis
         &parts.plan,
         &parts.phys,
         &parts.job,
+        stages.as_slice(),
     )
 }

@@ -1,6 +1,8 @@
 -- Which statuses are due.
 use Rattle.std.proofs.Common.{◌≡◌, ◌<◌, ◌⊎◌, inl, inr, ⊎_elim, ℕ, Bool, true, false, true≢false, Option, None, Some, List, [], ◌∷◌, codes, length, refl, ap, sym, subst, ◌∙◌, arith}
+use Rattle.std.specs.Str.Parse.{IsNumeral, digits_value}
 use Rattle.al_io.specs.Outside.{Bytes, Files}
+use Rattle.al_csv.specs.Generator.{generated}
 use Rattle.al_words.specs.declared.command.Command.{Command}
 use Rattle.al_words.specs.declared.command.Command.TheVariants as C
 use Rattle.al_words.specs.Words.{Item, word, AreItems, none, ended, positional, attached, spaced, IsCommand, Asks, Options, words_of, options_of}
@@ -11,13 +13,19 @@ use Rattle.al_query.specs.declared.status.DataRefused.{DataRefused}
 use Rattle.al_query.specs.declared.status.Status.{Status}
 use Rattle.al_query.specs.declared.status.Status.TheVariants as St
 use Rattle.al_query.specs.Served.{IsPlan, IsPlanRefused, absent, unread, unaccepted, is_served, IsAsked, IsText}
-use Rattle.al_query_cases.specs.DueCases.{no_files, check_words, run_words, AbsentPlan, NoWords, RunIsUnserved, CutsBefore, MayEndSo}
+use Rattle.al_query_cases.specs.DueCases.{no_files, check_words, run_words, gen_words, AbsentPlan, NoWords, RunIsUnserved, GenNeedsNothing, CutsBefore, MayEndSo}
 
 -- ---- commands
 
 -- words have one command
 abbrev pub IsOne : Type 0
 IsOne = (words : List Bytes) (c d : Command) → IsCommand words c → IsCommand words d → c ≡ d
+
+numeral : IsNumeral 10 (codes "7")
+numeral = let low : 7 < 10 = omega arith in (omega arith, (low, tt))
+
+zero_numeral : IsNumeral 10 (codes "0")
+zero_numeral = let low : 0 < 10 = omega arith in (omega arith, (low, tt))
 
 abbrev plan : Bytes
 plan = codes "p"
@@ -36,6 +44,14 @@ run_command = record {
   are_items = positional (inr (λ e. absurd (omega (arith, e)))) (positional (inr (λ e. absurd (omega (arith, e)))) none);
   once = tt;
   asks = (refl, refl, (refl, refl, refl), refl);
+}
+
+gen_command : IsCommand gen_words (C.Gen 7 0)
+gen_command = record {
+  items = word (codes "gen") ∷ word (codes "7") ∷ word (codes "0") ∷ [];
+  are_items = positional (inr (λ e. absurd (omega (arith, e)))) (positional (inr (λ e. absurd (omega (arith, e)))) (positional (inr (λ e. absurd (omega (arith, e)))) none));
+  once = tt;
+  asks = (codes "7", codes "0", refl, refl, (numeral, omega arith, refl, omega arith, omega arith), (zero_numeral, omega arith, refl, omega arith, omega arith));
 }
 
 -- ---- an absent plan
@@ -96,7 +112,7 @@ no_words = record {
   refused = λ files r h. no_command h.0 h.1;
 }
 
--- ---- run
+-- ---- run, gen
 
 run_asked : IsOne → (files : Files) (status : Status) (c : Command) → IsCommand run_words c → IsAsked c files status → IsAsked (C.Run (codes "p") (record { partitions = 1; frame_size = 32768; memory = 32 }) 2) files status
 run_asked one files status c is h = subst (λ d. IsAsked d files status) (one run_words c _ is run_command) h
@@ -106,6 +122,14 @@ run_unserved one = record {
   usage = λ files c h. ap is_served (one run_words c _ h run_command);
   refused = λ files r h. let a = run_asked one files (St.PlanRefused r) h.0 h.1 h.2 in none_there a.0 a.1;
   done = λ files h. (run_asked one files St.Done h.0 h.1 h.2).1;
+}
+
+pub gen_needs_nothing : GenNeedsNothing
+gen_needs_nothing = record {
+  done = λ files. (C.Gen 7 0, gen_command, (generated 7 0, refl));
+  usage = λ files h. true≢false (h (C.Gen 7 0) gen_command);
+  good = λ files. tt;
+  absent_is_bad = λ h. none_there h.1.0 h.1.1;
 }
 
 -- ---- what may come

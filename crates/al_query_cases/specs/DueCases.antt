@@ -7,7 +7,7 @@ use Rattle.al_plan.specs.declared.file.RefusedKind.TheVariants as refused
 use Rattle.al_read.specs.Reads.{refusal}
 use Rattle.al_query.specs.declared.status.DataRefused.{DataRefused}
 use Rattle.al_query.specs.declared.status.Status.TheVariants as St
-use Rattle.al_query.specs.Served.{IsDue, IsDueOrCut, MayEnd}
+use Rattle.al_query.specs.Served.{IsDue, IsDueOrCut, IsGood, MayEnd}
 
 -- no file is there
 abbrev pub no_files : Files
@@ -44,6 +44,16 @@ pub record RunIsUnserved : Type 0 where
   pub usage : (files : Files) → IsDue run_words files St.Usage
   pub refused : (files : Files) (r : Refused) → IsDue run_words files (St.PlanRefused r) → ⊥
   pub done : (files : Files) → IsDue run_words files St.Done → ⊥
+
+abbrev pub gen_words : List Bytes
+gen_words = codes "gen" ∷ codes "7" ∷ codes "0" ∷ []
+
+-- `gen` is due to end well whatever the files are
+pub record GenNeedsNothing : Type 0 where
+  pub done : (files : Files) → IsDue gen_words files St.Done
+  pub usage : (files : Files) → IsDue gen_words files St.Usage → ⊥
+  pub good : (files : Files) → IsGood (C.Gen 7 0) files
+  pub absent_is_bad : IsGood (C.Check (codes "p")) no_files → ⊥
 
 -- ---- what may come first, and what may come at all
 

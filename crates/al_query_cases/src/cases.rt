@@ -1,4 +1,4 @@
-ghost use Rattle.al_query_cases.specs.DueCases.{AbsentPlan, CutsBefore, MayEndSo, NoWords, RunIsUnserved};
+ghost use Rattle.al_query_cases.specs.DueCases.{AbsentPlan, CutsBefore, GenNeedsNothing, MayEndSo, NoWords, RunIsUnserved};
 
 use al_words::one_command;
 
@@ -13,3 +13,8 @@ pub fn due_cases()
 {
     one_command();
 }
+
+/// What `gen` is due to end by. It does nothing: its clause is a worked case.
+pub fn gen_cases()
+    ensures { GenNeedsNothing }
+{}

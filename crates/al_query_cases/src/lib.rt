@@ -3,4 +3,4 @@
 
 mod cases;
 
-pub use cases::due_cases;
+pub use cases::{due_cases, gen_cases};

@@ -365,6 +365,12 @@ input_beside p i x y j e other =
     let (a, is, n) = split_input p i x e in
     ap (λ z. input z j) (with_split a p x y i is n) ∙ beside_around a x y j (λ s. other (s ∙ sym n)) ∙ sym (ap (λ z. input z j) is)
 
+-- with the input that it has the operator is as it was
+pub with_same : (p : Plan) (i : ℕ) (x : Plan) → input p i ≡ Some x → with_input p i x ≡ p
+with_same p i x e =
+    let (a, is, n) = split_input p i x e in
+    with_split a p x x i is n ∙ sym is
+
 -- the later of two plans that are put there stays
 pub with_twice : (p : Plan) (i : ℕ) (x y z : Plan) → input p i ≡ Some x → with_input (with_input p i y) i z ≡ with_input p i z
 with_twice p i x y z e =

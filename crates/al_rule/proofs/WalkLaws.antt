@@ -1,12 +1,15 @@
 -- What a walk finds, and what a rewriting at its place leaves as it was.
-use Rattle.std.proofs.Common.{◌≡◌, ◌⊎◌, inl, inr, ◌<◌, ℕ, zero, suc, List, [], ◌∷◌, length, Option, Some, None, Result, Ok, Err, IfOk, refl, ap, sym, subst, ◌∙◌, arith}
+use Rattle.std.proofs.Common.{◌≡◌, ◌⊎◌, inl, inr, ◌<◌, ℕ, zero, suc, List, [], ◌∷◌, ◌++◌, length, reverse, Option, Some, None, Result, Ok, Err, IfOk, refl, ap, sym, subst, ◌∙◌, arith}
 use Rattle.std.proofs.lemmas.Bool.{cases_order}
+use Rattle.std.proofs.lemmas.List.{reverse-append}
 use Rattle.al_plan.specs.declared.plan.Plan.{Plan}
 use Rattle.al_rule.specs.declared.find.Found.{Found}
 use Rattle.al_rule.specs.Places.{Rewriting, input, with_input, plan_at, and_then, Applied}
-use Rattle.al_rule.specs.Rules.{Rules, Matches, Stuck, IsLocal}
+use Rattle.al_rule.specs.declared.rule.ApplyFault.{ApplyFault}
+use Rattle.al_rule.specs.declared.rule.ApplyFault.TheVariants.{NoMemory}
+use Rattle.al_rule.specs.Rules.{Rules, Matches, HandsBack, Stuck, IsLocal, under}
 use Rattle.al_rule.specs.Walks.{NoneHere, NoneBefore, NoneFrom, MatchesAt, IsBefore, IsNext, Finds, FindsIn}
-use Rattle.al_rule.proofs.PlaceLaws.{no_third, input_with, input_beside, with_twice}
+use Rattle.al_rule.proofs.PlaceLaws.{no_third, input_with, input_beside, with_same, with_twice}
 
 -- ---- the part at a place
 
@@ -49,19 +52,45 @@ no_more p (suc (suc i)) f s = no_third p i
 
 -- ---- a rule applied below the root
 
-pub applied_below : (R : Rewriting) (i : ℕ) (place : List ℕ) (p empty rest part rewritten whole : Plan)
-    → ((x : Plan) → input p i ≡ Some x → (rest ≡ with_input p i empty) × (part ≡ x))
-    → (MatchesAt R place part → Applied R place part rewritten)
-    → ((x : Plan) → input rest i ≡ Some x → whole ≡ with_input rest i rewritten)
-    → MatchesAt R (i ∷ place) p → Applied R (i ∷ place) p whole
-unfolding Applied
-applied_below R i place p empty rest part rewritten whole taken inner put (x, at_place, m) =
-    let (z, here, behind) = part_below i place p x at_place in
+-- what holds of an outcome goes up to the whole
+ok_under : (P Q : Plan → Type 0) (whole : Plan → Plan) → ((q : Plan) → P q → Q (whole q)) → (r : Result Plan ApplyFault) → IfOk r P → IfOk (under whole r) Q
+ok_under P Q whole up (Ok q) h = up q h
+ok_under P Q whole up (Err (NoMemory q)) h = h
+
+back_under : (whole : Plan → Plan) (p part : Plan) → whole part ≡ p → (r : Result Plan ApplyFault) → HandsBack part r → HandsBack p (under whole r)
+back_under whole p part is (Ok q) h = tt
+back_under whole p part is (Err (NoMemory q)) h =
+    let same : q ≡ part = cc in
+    ap (λ (x : Plan). NoMemory x) (ap whole same ∙ is)
+
+-- the parts of a plan whose input at a place was taken out, and what stands there
+record Opened (i : ℕ) (p spare rest part : Plan) (R : Rewriting) (below : List ℕ) : Type 0 where
+  here : input p i ≡ Some part
+  there : input rest i ≡ Some spare
+  whole : (q : Plan) → with_input rest i q ≡ with_input p i q
+  back : with_input rest i part ≡ p
+  matches : MatchesAt R below part
+
+opened : (R : Rewriting) (i : ℕ) (below place : List ℕ) (p spare rest part : Plan)
+    → place ≡ i ∷ below
+    → ((x : Plan) → input p i ≡ Some x → (rest ≡ with_input p i spare) × (part ≡ x))
+    → MatchesAt R place p → Opened i p spare rest part R below
+opened R i below place p spare rest part is taken m =
+    let (x, at_place, found) = subst (λ (l : List ℕ). MatchesAt R l p) is m in
+    let (z, here, behind) = part_below i below p x at_place in
     let t = taken z here in
-    let there : input rest i ≡ Some empty = ap (λ (q : Plan). input q i) t.0 ∙ input_with p i z empty here in
-    let whole_is : whole ≡ with_input p i rewritten = put empty there ∙ ap (λ (q : Plan). with_input q i rewritten) t.0 ∙ with_twice p i z empty rewritten here in
-    let inner_is : Applied R place z rewritten = subst (λ (q : Plan). Applied R place q rewritten) t.1 (inner (x, subst (λ (q : Plan). plan_at place q ≡ Some x) (sym t.1) behind, m)) in
-    (z, rewritten, here, inner_is, whole_is)
+    let whole = λ (q : Plan). ap (λ (r : Plan). with_input r i q) t.0 ∙ with_twice p i z spare q here in
+    record {
+      here = here ∙ ap (λ (q : Plan). Some q) (sym t.1);
+      there = ap (λ (q : Plan). input q i) t.0 ∙ input_with p i z spare here;
+      whole = whole;
+      back = whole part ∙ ap (λ (q : Plan). with_input p i q) t.1 ∙ with_same p i z here;
+      matches = (x, subst (λ (q : Plan). plan_at below q ≡ Some x) (sym t.1) behind, found);
+    }
+
+applied_above : (R : Rewriting) (i : ℕ) (below : List ℕ) (p x y q : Plan) → input p i ≡ Some x → Applied R below x y → q ≡ with_input p i y → Applied R (i ∷ below) p q
+unfolding Applied
+applied_above R i below p x y q here h is = (x, y, here, h, is)
 
 root_matches : (R : Rewriting) (p x : Plan) → plan_at [] p ≡ Some x → Matches R x → Matches R p
 unfolding plan_at
@@ -77,16 +106,28 @@ root_applied R place p r is h (x, e, m) =
     let m_here : Matches R p = root_matches R p x e_here m in
     ok_more (R p) (Applied R place p) r (λ q k. subst (λ (l : List ℕ). Applied R l p q) (sym is) (applied_root R p q k)) (h m_here)
 
-pub part_applied : {E : Type 0} (R : Rewriting) (i : ℕ) (below place : List ℕ) (p empty rest part rewritten : Plan) (r : Result Plan E)
+pub part_applied : (R : Rewriting) (i : ℕ) (below place : List ℕ) (p spare rest part : Plan) (inner outer : Result Plan ApplyFault)
     → place ≡ i ∷ below
-    → ((x : Plan) → input p i ≡ Some x → (rest ≡ with_input p i empty) × (part ≡ x))
-    → (MatchesAt R below part → Applied R below part rewritten)
-    → IfOk r (λ whole. (x : Plan) → input rest i ≡ Some x → whole ≡ with_input rest i rewritten)
-    → MatchesAt R place p → IfOk r (Applied R place p)
-part_applied R i below place p empty rest part rewritten r is taken inner put m =
-    let m_here : MatchesAt R (i ∷ below) p = subst (λ (l : List ℕ). MatchesAt R l p) is m in
-    ok_more (λ whole. (x : Plan) → input rest i ≡ Some x → whole ≡ with_input rest i rewritten) (Applied R place p) r
-    (λ whole k. subst (λ (l : List ℕ). Applied R l p whole) (sym is) (applied_below R i below p empty rest part rewritten whole taken inner k m_here)) put
+    → ((x : Plan) → input p i ≡ Some x → (rest ≡ with_input p i spare) × (part ≡ x))
+    → (MatchesAt R below part → IfOk inner (λ q. Applied R below part q))
+    → ((x : Plan) → input rest i ≡ Some x → outer ≡ under (with_input rest i) inner)
+    → MatchesAt R place p → IfOk outer (λ q. Applied R place p q)
+part_applied R i below place p spare rest part inner outer is taken applied put m =
+    let o = opened R i below place p spare rest part is taken m in
+    let up : (q : Plan) → Applied R below part q → Applied R place p (with_input rest i q) =
+    λ q h. subst (λ (l : List ℕ). Applied R l p (with_input rest i q)) (sym is) (applied_above R i below p part q (with_input rest i q) o.here h (o.whole q)) in
+    subst (λ (r : Result Plan ApplyFault). IfOk r (λ q. Applied R place p q)) (sym (put spare o.there))
+    (ok_under (λ q. Applied R below part q) (λ q. Applied R place p q) (with_input rest i) up inner (applied o.matches))
+
+pub part_handed_back : (R : Rewriting) (i : ℕ) (below place : List ℕ) (p spare rest part : Plan) (inner outer : Result Plan ApplyFault)
+    → place ≡ i ∷ below
+    → ((x : Plan) → input p i ≡ Some x → (rest ≡ with_input p i spare) × (part ≡ x))
+    → (MatchesAt R below part → HandsBack part inner)
+    → ((x : Plan) → input rest i ≡ Some x → outer ≡ under (with_input rest i) inner)
+    → MatchesAt R place p → HandsBack p outer
+part_handed_back R i below place p spare rest part inner outer is taken handed put m =
+    let o = opened R i below place p spare rest part is taken m in
+    subst (λ (r : Result Plan ApplyFault). HandsBack p r) (sym (put spare o.there)) (back_under (with_input rest i) p part o.back inner (handed o.matches))
 
 -- ---- where nothing matches
 
@@ -236,6 +277,10 @@ part_found rules i from p part here none x e =
 pub found_below : (rules : Rules) (i : ℕ) (from : List ℕ) (p part : Plan) (found f : Found) → input p i ≡ Some part → Finds rules from part (Some found) → f.rule ≡ found.rule → f.place.children ≡ i ∷ found.place.children → FindsIn rules i from p (Some f)
 found_below rules i from p part found f here h rule_is place_is =
     (found.place.children, place_is, (part, here, subst (λ (k : ℕ). IsNext rules from part k found.place.children) (sym rule_is) h))
+
+-- one number more at the end is one more at the front of the place turned round
+pub turned_below : (i : ℕ) (below place : List ℕ) → place ≡ below ++ i ∷ [] → reverse place ≡ i ∷ reverse below
+turned_below i below place is = ap (λ (l : List ℕ). reverse l) is ∙ reverse-append below (i ∷ [])
 
 -- nothing matches in an input at a place that is not before this one there
 none_in_part : (rules : Rules) (i : ℕ) (from other : List ℕ) (p : Plan) (k : ℕ) → k < rules.count → FindsIn rules i from p None → (IsBefore other from → ⊥) → MatchesAt (rules.rewrites k) (i ∷ other) p → ⊥

@@ -28,6 +28,11 @@ abbrev pub HandsBack : Plan → Result Plan ApplyFault → Type 0
 HandsBack p (Ok q) = Unit {0}
 HandsBack p (Err e) = e ≡ NoMemory p
 
+-- what was made of a part, or the part that was handed back, within the whole
+abbrev pub under : (Plan → Plan) → Result Plan ApplyFault → Result Plan ApplyFault
+under whole (Ok q) = Ok (whole q)
+under whole (Err (NoMemory q)) = Err (NoMemory (whole q))
+
 -- at each place that a step may change every rule of the set fails to match
 abbrev pub Stuck : Rules → Plan → Type 0
 Stuck rules p = (k : ℕ) → k < rules.count → (place : List ℕ) (x : Plan) → plan_at place p ≡ Some x → Matches (rules.rewrites k) x → ⊥

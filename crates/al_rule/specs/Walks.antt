@@ -1,5 +1,5 @@
 -- Walks over a plan's places: what a search from a place finds, and in which order a set of rules is driven.
-use Rattle.std.specs.Prelude.{◌≡◌, ◌≢◌, ◌⊎◌, ◌<◌, ℕ, List, [], ◌∷◌, ◌++◌, Option, Some, None}
+use Rattle.std.specs.Prelude.{◌≡◌, ◌≢◌, ◌⊎◌, ◌<◌, ℕ, List, [], ◌∷◌, ◌++◌, Option, Some, None, reverse}
 use Rattle.std.specs.List.{flat_map}
 use Rattle.al_plan.specs.declared.plan.Plan.{Plan}
 use Rattle.al_rule.specs.declared.find.Found.{Found}
@@ -54,6 +54,14 @@ Finds rules from p (Some f) = IsNext rules from p f.rule f.place.children
 abbrev pub FindsIn : Rules → ℕ → List ℕ → Plan → Option Found → Type 0
 FindsIn rules i from p None = (x : Plan) → input p i ≡ Some x → NoneFrom rules from x
 FindsIn rules i from p (Some f) = (rest : List ℕ) × (f.place.children ≡ i ∷ rest) × ((x : Plan) × (input p i ≡ Some x) × IsNext rules from x f.rule rest)
+
+-- a match whose place's numbers stand the other way round
+abbrev pub turned_round : Found → Found
+turned_round f = record { rule = f.rule; place = record { children = reverse f.place.children } }
+
+abbrev pub turned : Option Found → Option Found
+turned None = None
+turned (Some f) = Some (turned_round f)
 
 -- the trace gained a step of the set: this rule at this place
 abbrev pub Records : Rules → ℕ → List ℕ → Trace → Trace → Type 0

@@ -1,7 +1,8 @@
 //! The controllers: a set of rules driven once, or until none of its rules matches.
 
-ghost use Rattle.std.specs.Prelude.{◌≡◌, ◌<◌, ◌++◌, ◌∷◌, [], true, false, IfOk, OnOk, OnErr};
+ghost use Rattle.std.specs.Prelude.{◌≡◌, ◌<◌, ◌++◌, ◌∷◌, [], true, false, List as Listed, IfOk, OnOk, OnErr};
 ghost use Rattle.al_plan.specs.Refines.{Fit, Replaces};
+ghost use Rattle.al_rule.specs.declared.trace.TraceStep.{TraceStep};
 ghost use Rattle.al_rule.specs.Places.{Applied};
 ghost use Rattle.al_rule.specs.Rules.{Stuck, IsLocal};
 ghost use Rattle.al_rule.specs.Driven.{Drove, reached};
@@ -12,28 +13,38 @@ use crate::place::apply_at;
 use crate::rule::{ApplyFault, RuleSet};
 use crate::trace::{Trace, TraceStep};
 use al_plan::{Place, Plan};
-use al_value::{List, NoMemory};
+use al_value::{Boxed, List, NoMemory};
 use std::alloc::Global;
 use std::mem::replace;
 
-/// The plan with the rule applied that was found, beside the plan as it is.
-fn rewritten<S: RuleSet>(
+/// Applies the rule that was found. After want of memory the plan is as it was.
+fn rewrite<S: RuleSet>(
     alloc: Global,
     set: &S,
-    plan: &Plan,
+    plan: &mut Plan,
     found: &Found,
-) -> Result<Plan, NoMemory>
-    requires { found.now.rule < (S.rules_of set.now).count }
-    ensures { MatchesAt ((S.rules_of set.now).rewrites found.now.rule) found.now.place.children plan.now → IfOk result (λ q. Applied ((S.rules_of set.now).rewrites found.now.rule) found.now.place.children plan.now q) }
+) -> Result<(), NoMemory>
+    requires rule { found.now.rule < (S.rules_of set.now).count }
+    requires place { MatchesAt ((S.rules_of set.now).rewrites found.now.rule) found.now.place.children plan.old }
+    ensures ok { OnOk result (Applied ((S.rules_of set.now).rewrites found.now.rule) found.now.place.children plan.old plan.new) }
+    ensures err { OnErr result (plan.new ≡ plan.old) }
 {
-    let copy = plan.copy(alloc)?;
-    apply_at(
-        alloc,
-        set,
-        found.rule,
-        copy,
-        found.place.children.as_slice(),
-    )
+    let spare = Boxed::new(alloc, Plan::Empty)?;
+    let whole = replace(plan, Plan::Empty);
+    let children = found.place.children.as_slice();
+    let (outcome, spare) = apply_at(alloc, set, found.rule, whole, children, spare);
+    // Calls drop the plans, since what drops in place is proved variant by variant.
+    drop(spare);
+    match outcome {
+        Ok(next) => {
+            drop(replace(plan, next));
+            Ok(())
+        }
+        Err(ApplyFault::NoMemory(whole)) => {
+            drop(replace(plan, whole));
+            Err(NoMemory)
+        }
+    }
 }
 
 /// Writes down that the rule is applied that was found.
@@ -53,7 +64,15 @@ fn note<S: RuleSet>(alloc: Global, set: &S, t: &mut Trace, found: &Found) -> Res
     Ok(())
 }
 
-/// Applies the rule that was found. The plan and the trace change together, or not at all.
+/// Takes out the step that was written down last.
+fn forget(t: &mut Trace)
+    ensures { (steps : Listed TraceStep) (last : TraceStep) → t.old.steps ≡ steps ++ last ∷ [] → t.new.steps ≡ steps }
+{
+    drop(t.steps.pop());
+}
+
+/// Applies the rule that was found, and writes it down. The plan and the trace change together, or
+/// not at all.
 fn step<S: RuleSet>(
     alloc: Global,
     set: &S,
@@ -67,16 +86,11 @@ fn step<S: RuleSet>(
     ensures same_plan { OnErr result (plan.new ≡ plan.old) }
     ensures same_trace { OnErr result (t.new.steps ≡ t.old.steps) }
 {
-    let next = rewritten(alloc, set, plan, found)?;
-    let noted = note(alloc, set, t, found);
-    // Calls drop the plans, since what drops in place is proved variant by variant.
-    match noted {
-        Ok(()) => {
-            drop(replace(plan, next));
-            Ok(())
-        }
+    note(alloc, set, t, found)?;
+    match rewrite(alloc, set, plan, found) {
+        Ok(()) => Ok(()),
         Err(fault) => {
-            drop(next);
+            forget(t);
             Err(fault)
         }
     }

@@ -1,7 +1,7 @@
 //! The next place at which a rule of a set matches.
 
-ghost use Rattle.std.specs.Prelude.{◌≡◌, ◌<◌, ◌∷◌, IfOk};
-ghost use Rattle.al_rule.specs.Walks.{FirstRule, Finds, FindsIn};
+ghost use Rattle.std.specs.Prelude.{◌≡◌, ◌<◌, [], ◌∷◌, ◌++◌, IfOk};
+ghost use Rattle.al_rule.specs.Walks.{FirstRule, Finds, FindsIn, turned, turned_round};
 
 use crate::place::input;
 use crate::rule::RuleSet;
@@ -28,59 +28,96 @@ fn first_rule<S: RuleSet>(set: &S, p: &Plan) -> Option<usize>
     None
 }
 
-/// What was found in the input that is child `i`, as a place of the whole plan.
-fn below(alloc: Global, i: u32, found: &Found) -> Result<Found, NoMemory>
-    ensures { IfOk result (λ f. (f.rule ≡ found.now.rule) × (f.place.children ≡ i ∷ found.now.place.children)) }
+/// What was found in the input that is child `i`, as a match of the whole plan. As long as the
+/// search goes up, the last number of a place is the one of the root's child: one more is put
+/// behind the others, which stay where they are.
+fn below(i: u32, found: Found) -> Result<Found, NoMemory>
+    ensures { IfOk result (λ f. (f.rule ≡ found.rule) × (f.place.children ≡ found.place.children ++ i ∷ [])) }
 {
-    let mut children = List::new(alloc);
-    children.push(i)?;
-    children.extend(found.place.children.as_slice())?;
-    Ok(Found {
-        rule: found.rule,
-        place: Place { children },
-    })
+    let mut found = found;
+    found.place.children.push(i)?;
+    Ok(found)
 }
 
 /// The next match within the input that is child `i`, at its place `from` or behind it.
-#[cycle(find)]
-fn find_in<S: RuleSet>(
+#[cycle(seek)]
+fn seek_in<S: RuleSet>(
     alloc: Global,
     set: &S,
     p: &Plan,
     i: u32,
     from: &[u32],
 ) -> Result<Option<Found>, NoMemory>
-    ensures { IfOk result (FindsIn (S.rules_of set.now) i from.now p.now) }
+    ensures { IfOk result (λ found. FindsIn (S.rules_of set.now) i from.now p.now (turned found)) }
 {
     match input(p, i) {
         None => Ok(None),
-        Some(part) => match find(alloc, set, part, from)? {
+        Some(part) => match seek(alloc, set, part, from)? {
             None => Ok(None),
-            Some(found) => Ok(Some(below(alloc, i, &found)?)),
+            Some(found) => Ok(Some(below(i, found)?)),
         },
     }
 }
 
 /// The next match below the root, at the place `from` of child `i` or behind it.
-#[cycle(find)]
-fn find_below<S: RuleSet>(
+#[cycle(seek)]
+fn seek_below<S: RuleSet>(
     alloc: Global,
     set: &S,
     p: &Plan,
     i: u32,
     from: &[u32],
 ) -> Result<Option<Found>, NoMemory>
-    ensures { IfOk result (Finds (S.rules_of set.now) (i ∷ from.now) p.now) }
+    ensures { IfOk result (λ found. Finds (S.rules_of set.now) (i ∷ from.now) p.now (turned found)) }
 {
-    match find_in(alloc, set, p, i, from)? {
+    match seek_in(alloc, set, p, i, from)? {
         Some(found) => Ok(Some(found)),
-        None if i == 0 => find_in(alloc, set, p, 1, &[]),
+        None if i == 0 => seek_in(alloc, set, p, 1, &[]),
         None => Ok(None),
     }
 }
 
+/// The next match in pre-order, at the place `from` or behind it, with its place turned round.
+#[cycle(seek)]
+fn seek<S: RuleSet>(
+    alloc: Global,
+    set: &S,
+    p: &Plan,
+    from: &[u32],
+) -> Result<Option<Found>, NoMemory>
+    ensures { IfOk result (λ found. Finds (S.rules_of set.now) from.now p.now (turned found)) }
+{
+    match from.split_first() {
+        Some((i, rest)) => seek_below(alloc, set, p, *i, rest),
+        None => match first_rule(set, p) {
+            Some(rule) => Ok(Some(Found {
+                rule,
+                place: Place {
+                    children: List::new(alloc),
+                },
+            })),
+            None => seek_below(alloc, set, p, 0, from),
+        },
+    }
+}
+
+/// A match with its place turned round.
+fn turn_round(found: Found) -> Found
+    ensures { result ≡ turned_round found }
+{
+    let Found { rule, place } = found;
+    let Place { children } = place;
+    let mut children = children.into_vec();
+    children.reverse();
+    Found {
+        rule,
+        place: Place {
+            children: List::from_vec(children),
+        },
+    }
+}
+
 /// The next match in pre-order, at the place `from` or behind it.
-#[cycle(find)]
 pub fn find<S: RuleSet>(
     alloc: Global,
     set: &S,
@@ -89,16 +126,8 @@ pub fn find<S: RuleSet>(
 ) -> Result<Option<Found>, NoMemory>
     ensures { IfOk result (Finds (S.rules_of set.now) from.now p.now) }
 {
-    match from.split_first() {
-        Some((i, rest)) => find_below(alloc, set, p, *i, rest),
-        None => match first_rule(set, p) {
-            Some(rule) => Ok(Some(Found {
-                rule,
-                place: Place {
-                    children: List::new(alloc),
-                },
-            })),
-            None => find_below(alloc, set, p, 0, from),
-        },
+    match seek(alloc, set, p, from)? {
+        Some(found) => Ok(Some(turn_round(found))),
+        None => Ok(None),
     }
 }

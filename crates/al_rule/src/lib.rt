@@ -14,6 +14,6 @@ pub use drive::{drive_fixpoint, drive_once};
 pub use laws::{chain_laws, join_laws, select_laws, walk_cases};
 pub use live::{avoids, avoids_live, avoids_made, avoids_var, is_live, reads_live};
 pub use names::{RuleName, SetName};
-pub use place::{input, put_input};
+pub use place::{input, put_back, put_input, take_input};
 pub use rule::{ApplyFault, Rule, RuleSet};
 pub use trace::{Trace, TraceStep};

@@ -2,12 +2,11 @@
 
 ghost use Rattle.std.specs.Prelude.{◌≡◌, ◌<◌, IfOk, Some, None, MatchOption};
 ghost use Rattle.al_plan.specs.declared.plan.Plan.{Plan};
-ghost use Rattle.al_plan.specs.declared.plan.Plan.TheVariants.{Empty};
 ghost use Rattle.al_rule.specs.Places.{Applied, input, with_input};
-ghost use Rattle.al_rule.specs.Rules.{Matches};
+ghost use Rattle.al_rule.specs.Rules.{HandsBack, under};
 ghost use Rattle.al_rule.specs.Walks.{MatchesAt};
 
-use crate::rule::RuleSet;
+use crate::rule::{ApplyFault, RuleSet};
 use al_plan::Plan;
 use al_value::{Boxed, NoMemory};
 use std::alloc::Global;
@@ -197,22 +196,6 @@ fn swap_input(p: Plan, i: u32, new: Boxed<Plan>) -> (Plan, Boxed<Plan>)
     }
 }
 
-/// Takes out the input that is child `i`. An empty plan stands in its place.
-fn take_input(alloc: Global, p: Plan, i: u32) -> Result<(Plan, Plan), NoMemory>
-    ensures { IfOk result (λ taken. (x : Plan) → input p i ≡ Some x → (taken.0 ≡ with_input p i Empty) × (taken.1 ≡ x)) }
-{
-    match Boxed::new(alloc, Plan::Empty) {
-        Ok(empty) => {
-            let (rest, part) = swap_input(p, i, empty);
-            Ok((rest, part.into_inner()))
-        }
-        Err(fault) => {
-            drop(p);
-            Err(fault)
-        }
-    }
-}
-
 /// The plan with a new plan as the input that is child `i`.
 pub fn put_input(alloc: Global, p: Plan, i: u32, new: Plan) -> Result<Plan, NoMemory>
     ensures { IfOk result (λ q. (x : Plan) → input p i ≡ Some x → q ≡ with_input p i new) }
@@ -222,37 +205,69 @@ pub fn put_input(alloc: Global, p: Plan, i: u32, new: Plan) -> Result<Plan, NoMe
     Ok(whole)
 }
 
-fn apply_here<S: RuleSet>(alloc: Global, set: &S, k: usize, p: Plan) -> Result<Plan, NoMemory>
-    requires { k < (S.rules_of set.now).count }
-    ensures { Matches ((S.rules_of set.now).rewrites k) p → IfOk result (λ q. (S.rules_of set.now).rewrites k p q) }
+/// Takes out the input that is child `i`. The spare plan stands in its place, and the box of what
+/// was taken out is spare from then on.
+pub fn take_input(p: Plan, i: u32, spare: Boxed<Plan>) -> (Plan, Plan, Boxed<Plan>)
+    ensures { (x : Plan) → input p i ≡ Some x → (result.0 ≡ with_input p i spare) × (result.1 ≡ x) }
 {
-    match set.apply(alloc, k, p) {
-        Ok(q) => Ok(q),
-        Err(fault) => {
-            // A call, since what drops in place is proved variant by variant.
-            drop(fault);
-            Err(NoMemory)
+    let (rest, part) = swap_input(p, i, spare);
+    let mut part = part;
+    let taken = part.replace(Plan::Empty);
+    (rest, taken, part)
+}
+
+/// Puts a plan in as the input that is child `i`, in the spare box.
+pub fn put_back(p: Plan, i: u32, new: Plan, spare: Boxed<Plan>) -> (Plan, Boxed<Plan>)
+    ensures { (x : Plan) → input p i ≡ Some x → result.0 ≡ with_input p i new }
+{
+    let mut spare = spare;
+    // A call, since what drops in place is proved variant by variant.
+    drop(spare.replace(new));
+    swap_input(p, i, spare)
+}
+
+/// What a rule made of the input that is child `i`, or what it handed back, under its operator.
+fn put_outcome(
+    p: Plan,
+    i: u32,
+    outcome: Result<Plan, ApplyFault>,
+    spare: Boxed<Plan>,
+) -> (Result<Plan, ApplyFault>, Boxed<Plan>)
+    ensures { (x : Plan) → input p i ≡ Some x → result.0 ≡ under (with_input p i) outcome }
+{
+    match outcome {
+        Ok(new) => {
+            let (whole, spare) = put_back(p, i, new, spare);
+            (Ok(whole), spare)
+        }
+        Err(ApplyFault::NoMemory(part)) => {
+            let (whole, spare) = put_back(p, i, part, spare);
+            (Err(ApplyFault::NoMemory(whole)), spare)
         }
     }
 }
 
 /// The plan with a rule of the set applied at the place, the numbers of children from the root.
+/// What the rule doesn't rewrite keeps its boxes: on the way down and up one spare box stands in
+/// for the one that is open.
 pub fn apply_at<S: RuleSet>(
     alloc: Global,
     set: &S,
     k: usize,
     p: Plan,
     place: &[u32],
-) -> Result<Plan, NoMemory>
+    spare: Boxed<Plan>,
+) -> (Result<Plan, ApplyFault>, Boxed<Plan>)
     requires { k < (S.rules_of set.now).count }
-    ensures { MatchesAt ((S.rules_of set.now).rewrites k) place.now p → IfOk result (λ q. Applied ((S.rules_of set.now).rewrites k) place.now p q) }
+    ensures applied { MatchesAt ((S.rules_of set.now).rewrites k) place.now p → IfOk result.0 (λ q. Applied ((S.rules_of set.now).rewrites k) place.now p q) }
+    ensures handed_back { MatchesAt ((S.rules_of set.now).rewrites k) place.now p → HandsBack p result.0 }
 {
     match place.split_first() {
-        None => apply_here(alloc, set, k, p),
+        None => (set.apply(alloc, k, p), spare),
         Some((i, below)) => {
-            let (rest, part) = take_input(alloc, p, *i)?;
-            let rewritten = apply_at(alloc, set, k, part, below)?;
-            put_input(alloc, rest, *i, rewritten)
+            let (rest, part, spare) = take_input(p, *i, spare);
+            let (outcome, spare) = apply_at(alloc, set, k, part, below, spare);
+            put_outcome(rest, *i, outcome, spare)
         }
     }
 }

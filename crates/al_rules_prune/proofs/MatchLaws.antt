@@ -15,6 +15,7 @@ use Rattle.al_plan.specs.Allows.{live, is_among}
 use Rattle.al_plan.proofs.Makes.{at_head}
 use Rattle.al_plan.specs.Refines.{Fit, Replaces}
 use Rattle.al_plan.proofs.Bools.{no, by_cases}
+use Rattle.al_rule.specs.declared.rule.ApplyFault.{ApplyFault}
 use Rattle.al_rule.specs.Places.{Rewriting}
 use Rattle.al_rule.specs.Rules.{Decides, Matches}
 use Rattle.al_rule.proofs.Operators.{out-Select, out-Assign, out-Project, out-Group, out-Order, out-Aggregate, out-Result, out-Join, out-LeftJoin}
@@ -25,7 +26,7 @@ use Rattle.al_plan.specs.Uses.{named}
 use Rattle.al_rules_prune.specs.Reading.{reads, has_distinct}
 use Rattle.al_rules_prune.specs.GroupCut.{uses_less}
 use Rattle.al_rules_prune.specs.Kept.{in_right}
-use Rattle.al_rules_prune.specs.Matching.{IsNoProject, IsNoJoined, IsNot, Rewritten, IsNarrow, IsWideOn, left_cut, right_cut, outcome}
+use Rattle.al_rules_prune.specs.Matching.{IsNoProject, IsNoJoined, IsNot, IsSelectCut, CutsSelect, CutsUnder, Merges, Uncovers, Rewritten, IsNarrow, IsWideOn, left_cut, right_cut, outcome}
 
 -- ---- what is made of a plan
 
@@ -276,3 +277,45 @@ rewritten_group p keys n x is d h =
 
 pub yes_group : (p : Plan) (keys : List (Var × Var)) (n x : Plan) → p ≡ P.Group keys n x → has_distinct n ≡ false → IsWide (map (λ k. k.1) keys ++ map named (reads n)) x → Matches rule.GroupProjectInput p
 yes_group p keys n x is d h = (P.Group keys n (narrowed (map (λ k. k.1) keys ++ map named (reads n)) x), rewritten_group p keys n x is d h)
+
+-- ---- what is moved, not copied
+
+pub bare_input : (p : Plan) (vars : List Var) (x q : Plan) → p ≡ P.Project vars x → q ≡ x → Uncovers p q
+bare_input p vars x q is same ws y at = same ∙ (same_Project vars ws x y (sym is ∙ at)).1
+
+pub not_covered : (p q : Plan) → IsNoProject p → Uncovers p q
+not_covered p q never vars x at = absurd (never vars x at)
+
+pub merges_bare : (p : Plan) (vars : List Var) (over under : Plan) → p ≡ P.Project vars over → Uncovers over under → Merges p (P.Project vars under)
+merges_bare p vars over under is bare ws inner x at =
+    let s = same_Project vars ws over (P.Project inner x) (sym is ∙ at) in
+    (λ i. P.Project (s.0 i) (bare inner x s.1 i))
+
+pub not_merged : (p q : Plan) → IsNoProject p → Merges p q
+not_merged p q never vars inner x at = absurd (never vars (P.Project inner x) at)
+
+pub applied_project : (p q : Plan) → Merges p q → Matches rule.ProjectOverProject p → rule.ProjectOverProject p q
+applied_project p q h (z, (vars, inner, x, at, to)) = (vars, inner, x, at, h vars inner x at)
+
+pub applied_all : (p q : Plan) → Uncovers p q → Matches rule.ProjectAll p → rule.ProjectAll p q
+applied_all p q h (z, (vars, x, at, same, to)) = (vars, x, at, same, h vars x at)
+
+pub is_cut : (p : Plan) (vars some : List Var) (e : Expr) (x : Plan) → p ≡ P.Project vars (P.Select e x) → IsWide (vars ++ read_by e) x → some ≡ rule.kept (vars ++ read_by e) x → IsSelectCut p some
+is_cut p vars some e x is is_wide kept = (vars, e, x, is, is_wide, kept)
+
+pub cuts_select : (p : Plan) (some : List Var) (e : Expr) (x inner q : Plan) → p ≡ P.Select e x → inner ≡ P.Project some x → q ≡ P.Select e inner → CutsSelect some p q
+cuts_select p some e x inner q is below above d y at =
+    let s = same_Select e d x y (sym is ∙ at) in
+    above ∙ (λ i. P.Select e (below i)) ∙ (λ i. P.Select (s.0 i) (P.Project some (s.1 i)))
+
+pub cuts_under : (p : Plan) (vars some : List Var) (over under : Plan) → p ≡ P.Project vars over → CutsSelect some over under → CutsUnder some p (P.Project vars under)
+cuts_under p vars some over under is cuts ws e x at =
+    let s = same_Project vars ws over (P.Select e x) (sym is ∙ at) in
+    (λ i. P.Project (s.0 i) (cuts e x s.1 i))
+
+pub applied_cut : (p q : Plan) (some : List Var) → IsSelectCut p some → CutsUnder some p q → rule.ProjectBelowSelect p q
+applied_cut p q some (vars, e, x, at, is_wide, to) cuts = (vars, e, x, at, is_wide, cuts vars e x at ∙ ap (λ (us : List Var). P.Project vars (P.Select e (P.Project us x))) to)
+
+pub replaces_by : (R : Rewriting) → ((p q : Plan) → Fit p → R p q → Replaces q p) → (p : Plan) (result : Result Plan ApplyFault) → (Matches R p → IfOk result (λ q. R p q)) → Matches R p → Fit p → IfOk result (λ q. Replaces q p)
+replaces_by R sound p (Ok q) h m fit = sound p q fit (h m)
+replaces_by R sound p (Err e) h m fit = h m

@@ -1,5 +1,5 @@
 -- Whether a rule matches, and what it makes of a plan.
-use Rattle.std.specs.Prelude.{◌≡◌, Bool, true, false, List, Option, Some, None, Result, Ok, Err, if◌then◌else◌}
+use Rattle.std.specs.Prelude.{◌≡◌, Bool, true, false, List, ◌++◌, Option, Some, None, Result, Ok, Err, if◌then◌else◌}
 use Rattle.al_value.specs.declared.fault.NoMemory.{NoMemory}
 use Rattle.al_plan.specs.declared.expr.Var.{Var}
 use Rattle.al_plan.specs.declared.expr.Expr.{Expr}
@@ -9,7 +9,7 @@ use Rattle.al_rule.specs.declared.rule.ApplyFault.{ApplyFault}
 use Rattle.al_rule.specs.declared.rule.ApplyFault.TheVariants as A
 use Rattle.al_rule.specs.Places.{Rewriting}
 use Rattle.al_rule.specs.Rules.{Matches}
-use Rattle.al_rules_prune.specs.Prunes.{joined, narrowed, wide, IsWide}
+use Rattle.al_rules_prune.specs.Prunes.{joined, kept, narrowed, read_by, wide, IsWide}
 
 abbrev pub IsNoProject : Plan → Type 0
 IsNoProject p = (vars : List Var) (x : Plan) → p ≡ P.Project vars x → ⊥
@@ -47,3 +47,23 @@ left_cut on_left vars l = if on_left then narrowed vars l else l
 
 abbrev pub right_cut : Bool → List Var → Plan → Plan
 right_cut on_left vars r = if on_left then r else narrowed vars r
+
+-- of a project, its input
+abbrev pub Uncovers : Plan → Plan → Type 0
+Uncovers p q = (vars : List Var) (x : Plan) → p ≡ P.Project vars x → q ≡ x
+
+-- of a project over a project, the upper one over the input of the lower one
+abbrev pub Merges : Plan → Plan → Type 0
+Merges p q = (vars inner : List Var) (x : Plan) → p ≡ P.Project vars (P.Project inner x) → q ≡ P.Project vars x
+
+-- the variables that a select's input is cut to, which has others too
+abbrev pub IsSelectCut : Plan → List Var → Type 0
+IsSelectCut p some = (vars : List Var) × (e : Expr) × (x : Plan) × (p ≡ P.Project vars (P.Select e x)) × IsWide (vars ++ read_by e) x × (some ≡ kept (vars ++ read_by e) x)
+
+-- of a select, the select over a project of its input
+abbrev pub CutsSelect : List Var → Plan → Plan → Type 0
+CutsSelect some p q = (e : Expr) (x : Plan) → p ≡ P.Select e x → q ≡ P.Select e (P.Project some x)
+
+-- the same under a project
+abbrev pub CutsUnder : List Var → Plan → Plan → Type 0
+CutsUnder some p q = (vars : List Var) (e : Expr) (x : Plan) → p ≡ P.Project vars (P.Select e x) → q ≡ P.Project vars (P.Select e (P.Project some x))

@@ -5,11 +5,14 @@ ghost use Rattle.std.specs.Prelude.{◌≡◌, ◌++◌, IfOk, MatchOption, map}
 ghost use Rattle.al_plan.specs.declared.plan.Plan.TheVariants as P;
 ghost use Rattle.al_rules_prune.specs.Prunes as meaning;
 ghost use Rattle.al_rules_prune.specs.Prunes.{IsWide, read_by, read_by_aggregates};
-ghost use Rattle.al_rules_prune.specs.Matching.{IsNot, Rewritten};
+ghost use Rattle.al_rule.specs.Rules.{HandsBack, Matches};
+ghost use Rattle.al_rules_prune.specs.Matching.{CutsSelect, CutsUnder, IsNot, IsSelectCut, Rewritten};
 ghost use Rattle.al_rules_prune.specs.Sound as sound;
 
 use crate::parts::{copy_vars, outcome, project_parts};
-use crate::wanted::{Listed, ListedOrKeys, ListedOrRead, ReadByCalls, is_wide, narrowed};
+use crate::wanted::{
+    Cut, Listed, ListedOrKeys, ListedOrRead, ReadByCalls, cut_to, is_wide, narrowed,
+};
 use al_plan::{AggCall, Expr, OrderKey, Plan, Var};
 use al_rule::{ApplyFault, Rule, RuleName};
 use al_value::{Boxed, List, NoMemory};
@@ -115,8 +118,10 @@ fn wide_select(p: &Plan) -> Option<OverSelect<'_>>
     }
 }
 
-fn cut_select(alloc: Global, p: &Plan) -> Result<Option<Plan>, NoMemory>
-    ensures { IfOk result (Rewritten meaning.ProjectBelowSelect p.now) }
+/// What the input of a select is cut to, where it is wider, and a box for one project more.
+#[tactic(auto, using(crate::proofs::MatchLaws::is_cut))]
+fn select_cut(alloc: Global, p: &Plan) -> Result<Option<Cut>, NoMemory>
+    ensures { IfOk result (λ found. MatchOption found (IsNot meaning.ProjectBelowSelect p.now) (λ c. IsSelectCut p.now c.vars)) }
 {
     let Some(found) = wide_select(p) else {
         return Ok(None);
@@ -125,11 +130,55 @@ fn cut_select(alloc: Global, p: &Plan) -> Result<Option<Plan>, NoMemory>
         vars: found.vars.as_slice(),
         cond: found.cond,
     };
-    let input = narrowed(alloc, &wanted, found.input)?;
-    let cond = found.cond.copy(alloc)?;
-    let input = Boxed::new(alloc, Plan::Select { cond, input })?;
-    let vars = copy_vars(alloc, found.vars.as_slice())?;
-    Ok(Some(Plan::Project { vars, input }))
+    Ok(Some(cut_to(alloc, &wanted, found.input)?))
+}
+
+/// A select with a project over its input. All boxes stay.
+#[tactic(auto, using(crate::proofs::MatchLaws::cuts_select))]
+fn cut_below(over: Boxed<Plan>, cut: Cut) -> Boxed<Plan>
+    ensures { CutsSelect cut.vars over result }
+{
+    let Cut { vars, spare } = cut;
+    let mut over = over;
+    let mut inner = spare;
+    match over.replace(Plan::Empty) {
+        Plan::Select { cond, input } => {
+            // Calls drop the plans, since what drops in place is proved variant by variant.
+            drop(inner.replace(Plan::Project { vars, input }));
+            drop(over.replace(Plan::Select { cond, input: inner }));
+            over
+        }
+        other => {
+            drop(over.replace(other));
+            over
+        }
+    }
+}
+
+/// A project over a select, with a project more over the select's input.
+#[tactic(auto, using(crate::proofs::MatchLaws::cuts_under))]
+fn cut_select(p: Plan, cut: Cut) -> Plan
+    ensures { CutsUnder cut.vars p result }
+{
+    match p {
+        Plan::Project { vars, input } => Plan::Project {
+            vars,
+            input: cut_below(input, cut),
+        },
+        other => other,
+    }
+}
+
+fn cut(alloc: Global, p: Plan) -> Result<Plan, ApplyFault>
+    ensures applied { Matches meaning.ProjectBelowSelect p → IfOk result (λ q. meaning.ProjectBelowSelect p q) }
+    ensures handed_back { HandsBack p result }
+{
+    let found = select_cut(alloc, &p);
+    match found {
+        Ok(Some(cut)) => Ok(cut_select(p, cut)),
+        Ok(None) => Ok(p),
+        Err(_) => Err(ApplyFault::NoMemory(p)),
+    }
 }
 
 impl Rule for ProjectBelowSelect {
@@ -151,8 +200,7 @@ impl Rule for ProjectBelowSelect {
     }
 
     fn apply(&self, alloc: Global, p: Plan) -> Result<Plan, ApplyFault> {
-        let made = cut_select(alloc, &p);
-        outcome(p, made)
+        cut(alloc, p)
     }
 }
 

@@ -7,7 +7,7 @@ ghost use Rattle.al_plan.specs.Allows.{is_among, live};
 ghost use Rattle.al_rule.specs.Rules.{Decides};
 ghost use Rattle.al_rules_prune.specs.Prunes as meaning;
 ghost use Rattle.al_rules_prune.specs.Prunes.{HaveSame, all_among, assigned_over, bindings};
-ghost use Rattle.al_rules_prune.specs.Matching.{IsNot, Rewritten};
+ghost use Rattle.al_rules_prune.specs.Matching.{IsNot, Merges, Rewritten, Uncovers};
 ghost use Rattle.al_rules_prune.specs.Sound as sound;
 
 use crate::parts::{copy_vars, outcome, project_parts};
@@ -40,15 +40,38 @@ fn over_project(p: &Plan) -> Option<OverProject<'_>>
     Some(OverProject { vars, inner, input })
 }
 
-fn one_project(alloc: Global, p: &Plan) -> Result<Option<Plan>, NoMemory>
-    ensures { IfOk result (Rewritten meaning.ProjectOverProject p.now) }
+/// The input of a project, in the project's box or its own.
+#[tactic(auto, using(crate::proofs::MatchLaws::bare_input))]
+fn bare(over: Boxed<Plan>) -> Boxed<Plan>
+    ensures { Uncovers over result }
 {
-    let Some(found) = over_project(p) else {
-        return Ok(None);
-    };
-    let vars = copy_vars(alloc, found.vars.as_slice())?;
-    let input = copied(alloc, found.input)?;
-    Ok(Some(Plan::Project { vars, input }))
+    let mut over = over;
+    match over.replace(Plan::Empty) {
+        Plan::Project { vars, input } => {
+            drop(vars);
+            drop(over);
+            input
+        }
+        other => {
+            // A call, since what drops in place is proved variant by variant.
+            drop(over.replace(other));
+            over
+        }
+    }
+}
+
+/// A project without the project below it.
+#[tactic(auto, using(crate::proofs::MatchLaws::merges_bare))]
+fn one_project(p: Plan) -> Plan
+    ensures { Merges p result }
+{
+    match p {
+        Plan::Project { vars, input } => Plan::Project {
+            vars,
+            input: bare(input),
+        },
+        other => other,
+    }
 }
 
 impl Rule for ProjectOverProject {
@@ -69,9 +92,8 @@ impl Rule for ProjectOverProject {
         }
     }
 
-    fn apply(&self, alloc: Global, p: Plan) -> Result<Plan, ApplyFault> {
-        let made = one_project(alloc, &p);
-        outcome(p, made)
+    fn apply(&self, _alloc: Global, p: Plan) -> Result<Plan, ApplyFault> {
+        Ok(one_project(p))
     }
 }
 
@@ -107,13 +129,16 @@ fn of_all(p: &Plan) -> Option<(&List<Var>, &Plan)>
     }
 }
 
-fn no_project(alloc: Global, p: &Plan) -> Result<Option<Plan>, NoMemory>
-    ensures { IfOk result (Rewritten meaning.ProjectAll p.now) }
+fn no_project(p: Plan) -> Plan
+    ensures { Uncovers p result }
 {
-    let Some((_, input)) = of_all(p) else {
-        return Ok(None);
-    };
-    Ok(Some(input.copy(alloc)?))
+    match p {
+        Plan::Project { vars, input } => {
+            drop(vars);
+            input.into_inner()
+        }
+        other => other,
+    }
 }
 
 impl Rule for ProjectAll {
@@ -134,9 +159,8 @@ impl Rule for ProjectAll {
         }
     }
 
-    fn apply(&self, alloc: Global, p: Plan) -> Result<Plan, ApplyFault> {
-        let made = no_project(alloc, &p);
-        outcome(p, made)
+    fn apply(&self, _alloc: Global, p: Plan) -> Result<Plan, ApplyFault> {
+        Ok(no_project(p))
     }
 }
 

@@ -166,6 +166,23 @@ pub fn narrowed<W: Wanted>(alloc: Global, wanted: &W, p: &Plan) -> Result<Boxed<
     Boxed::new(alloc, Plan::Project { vars, input })
 }
 
+/// The variables of a project, and a box for it.
+#[derive(Drop)]
+pub struct Cut {
+    pub vars: List<Var>,
+    pub spare: Boxed<Plan>,
+}
+
+/// What a plan is cut to, of which this is wanted, and a box for the project.
+pub fn cut_to<W: Wanted>(alloc: Global, wanted: &W, p: &Plan) -> Result<Cut, NoMemory>
+    ensures { IfOk result (λ c. c.vars ≡ meaning.kept (W.vars_of wanted.now) p.now) }
+{
+    let all = live(alloc, p)?;
+    let vars = kept(alloc, wanted, all.as_slice())?;
+    let spare = Boxed::new(alloc, Plan::Empty)?;
+    Ok(Cut { vars, spare })
+}
+
 /// Those of a list, and those that keys order by.
 #[derive(Drop)]
 pub struct ListedOrKeys<'a> {

@@ -10,29 +10,40 @@ use Rattle.al_plan.specs.declared.plan.Plan.TheOpen as L
 use Rattle.al_plan.specs.Names.{names}
 use Rattle.al_plan.specs.Allows.{live}
 use Rattle.al_plan.specs.Refines.{Fit, AreAmong, Replaces}
-use Rattle.al_value.specs.declared.fault.NoMemory.{NoMemory}
 use Rattle.al_rule.specs.declared.rule.ApplyFault.{ApplyFault}
 use Rattle.al_rule.specs.Places.{Rewriting, input, with_input}
 use Rattle.al_rule.specs.Rules.{Decides, Matches}
 use Rattle.al_rule.specs.Reads.{ReadsNone}
 use Rattle.al_rule.proofs.Operators.{out-Select, out-Assign, out-Unnest, out-Subplan, out-Join, out-LeftJoin}
-use Rattle.al_rule.proofs.PlaceLaws.{Around, around, number, input_around, with_around, assign, project, unnest, subplan, order, distinct, join_left, join_right, left_join_left}
+use Rattle.al_rule.proofs.PlaceLaws.{Around, around, number, input_around, with_around, input_with, with_twice, assign, project, unnest, subplan, order, distinct, join_left, join_right, left_join_left}
 use Rattle.al_rules_select.specs.Lowers.{IsNoSelect, Lowers}
 use Rattle.al_rules_select.specs.Selects as rule
 
 pub same_select : (c d : Expr) (x y : Plan) → P.Select c x ≡ P.Select d y → (c ≡ d) × (x ≡ y)
 same_select c d x y e = let h : L.Select c x ≡ L.Select d y = sym (out-Select c x) ∙ ap out-Plan e ∙ out-Select d y in (cc, cc)
 
-pub lowers_by : (i : ℕ) (p over part : Plan) (cond : Expr) (q : Plan) → p ≡ P.Select cond over → input over i ≡ Some part → ((x : Plan) → input over i ≡ Some x → q ≡ with_input over i (P.Select cond part)) → Lowers i p q
-lowers_by i p over part cond q is at put e x y other there =
+pub lowers_select : (i : ℕ) (p over q : Plan) (cond : Expr) → p ≡ P.Select cond over → ((x : Plan) → input over i ≡ Some x → q ≡ with_input over i (P.Select cond x)) → Lowers i p q
+lowers_select i p over q cond is put e x y other there =
     let s = same_select cond e over x (sym is ∙ other) in
-    let same : Some part ≡ Some y = sym at ∙ ap (λ z. input z i) s.1 ∙ there in
-    let parts : part ≡ y = cc in
-    put part at ∙ (λ j. with_input (s.1 j) i (P.Select (s.0 j) (parts j)))
+    let h : input over i ≡ Some y = ap (λ z. input z i) s.1 ∙ there in
+    put y h ∙ (λ j. with_input (s.1 j) i (P.Select (s.0 j) y))
 
-pub lowers_ok : (i : ℕ) (p over part : Plan) (cond : Expr) (result : Result Plan NoMemory) → p ≡ P.Select cond over → input over i ≡ Some part → IfOk result (λ q. (x : Plan) → input over i ≡ Some x → q ≡ with_input over i (P.Select cond part)) → IfOk result (Lowers i p)
-lowers_ok i p over part cond (Ok q) is at put = lowers_by i p over part cond q is at put
-lowers_ok i p over part cond (Err e) is at put = put
+pub lowers_none : (i : ℕ) (p q : Plan) → ((e : Expr) (x : Plan) → p ≡ P.Select e x → ⊥) → Lowers i p q
+lowers_none i p q never e x y is there = absurd (never e x is)
+
+-- what is taken out of an operator and put back under a select
+pub placed_below : (i : ℕ) (over operator rest part held spare whole x : Plan) (selected : Plan → Plan) → operator ≡ over → held ≡ part → input over i ≡ Some x
+    → ((z : Plan) → input operator i ≡ Some z → (rest ≡ with_input operator i spare) × (part ≡ z))
+    → ((z : Plan) → input rest i ≡ Some z → whole ≡ with_input rest i (selected held))
+    → whole ≡ with_input over i (selected x)
+placed_below i over operator rest part held spare whole x selected is kept here taken put =
+    let there : input operator i ≡ Some x = ap (λ z. input z i) is ∙ here in
+    let t = taken x there in
+    let held_is : held ≡ x = kept ∙ t.1 in
+    put spare (ap (λ z. input z i) t.0 ∙ input_with operator i x spare there)
+    ∙ ap (λ z. with_input z i (selected held)) t.0
+    ∙ with_twice operator i x spare (selected held) there
+    ∙ (λ j. with_input (is j) i (selected (held_is j)))
 
 pub decides_from : (b : Bool) (A B : Type 0) → (A → B) → (B → A) → Decides b A → Decides b B
 decides_from true A B f g h = f h

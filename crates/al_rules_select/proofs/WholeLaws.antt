@@ -1,7 +1,6 @@
 -- Which plans the other rules of selects rewrite, and that what they make is that.
-use Rattle.std.proofs.Common.{◌≡◌, Bool, true, [], ◌∷◌, refl, ap, sym, subst, ◌∙◌, Result, Ok, Err, IfOk}
+use Rattle.std.proofs.Common.{◌≡◌, Bool, true, [], ◌∷◌, refl, ap, sym, ◌∙◌, Result, IfOk}
 use Rattle.al_value.specs.declared.value.Value.TheVariants as V
-use Rattle.al_value.specs.declared.fault.NoMemory.{NoMemory}
 use Rattle.al_func.specs.declared.func.Func.TheVariants as F
 use Rattle.al_plan.specs.declared.expr.Expr.{Expr, out-Expr, out-roll-Expr}
 use Rattle.al_plan.specs.declared.expr.Expr.TheVariants as E
@@ -11,15 +10,9 @@ use Rattle.al_plan.specs.declared.plan.Plan.TheVariants as P
 use Rattle.al_conj.specs.Conj.{both, IsLeaf}
 use Rattle.al_rule.specs.declared.rule.ApplyFault.{ApplyFault}
 use Rattle.al_rule.specs.Rules.{Decides, Matches}
-use Rattle.al_rules_select.specs.Lowers.{IsNoSelect, Splits, Uncovers, Joins}
+use Rattle.al_rules_select.specs.Lowers.{IsNoSelect, IsNoPair, IsPair, IsJoinedCondition, IsOverNoJoin, Splits, Uncovers, Joins}
 use Rattle.al_rules_select.specs.Selects as rule
-use Rattle.al_rules_select.proofs.SelectLaws.{same_select, same_join, decides_from}
-
--- ---- what was made, or the plan as it was
-
-pub or_back_ok : (result : Result Plan ApplyFault) (made : Result Plan NoMemory) (A B : Plan → Type 0) → ((q : Plan) → A q → B q) → IfOk made A → IfOk result (λ q. made ≡ Ok q) → IfOk result B
-or_back_ok (Ok q) made A B f h e = f q (subst (λ (m : Result Plan NoMemory). IfOk m A) e h)
-or_back_ok (Err e) made A B f h k = k
+use Rattle.al_rules_select.proofs.SelectLaws.{same_select, same_join, decides_from, if_ok}
 
 -- ---- an `and` of two
 
@@ -38,15 +31,31 @@ other_split p e x is leaf (q, (a, b, y, at, to)) = leaf a b (same_select e (both
 pub yes_split : (p : Plan) (e : Expr) (x : Plan) (a b : Expr) → p ≡ P.Select e x → e ≡ both a b → Matches rule.SplitAnd p
 yes_split p e x a b is h = (P.Select a (P.Select b x), (a, b, x, is ∙ ap (λ (z : Expr). P.Select z x) h, refl))
 
-pub splits_ok : (p : Plan) (e : Expr) (x : Plan) (a b : Expr) (result : Result Plan NoMemory) → p ≡ P.Select e x → e ≡ both a b → IfOk result (λ q. q ≡ P.Select a (P.Select b x)) → IfOk result (Splits p)
-splits_ok p e x a b (Err w) is h made = made
-splits_ok p e x a b (Ok q) is h made = λ c d y at.
-    let s = same_select e (both c d) x y (sym is ∙ at) in
-    let t = same_both a b c d (sym h ∙ s.0) in
-    made ∙ (λ i. P.Select (t.0 i) (P.Select (t.1 i) (s.1 i)))
+pub no_select : (p : Plan) → IsNoSelect p → IsNoPair p
+no_select p never a b (x, is) = never (both a b) x is
 
-pub applied_split : (p : Plan) (result : Result Plan ApplyFault) (made : Result Plan NoMemory) → IfOk made (Splits p) → IfOk result (λ q. made ≡ Ok q) → Matches rule.SplitAnd p → IfOk result (λ q. rule.SplitAnd p q)
-applied_split p result made h e (q, (a, b, x, at, to)) = or_back_ok result made (Splits p) (λ q. rule.SplitAnd p q) (λ q k. (a, b, x, at, k a b x at)) h e
+pub no_sides : (p : Plan) (e : Expr) (x : Plan) → p ≡ P.Select e x → IsLeaf e → IsNoPair p
+no_sides p e x is leaf a b (y, at) = leaf a b (same_select e (both a b) x y (sym is ∙ at)).0
+
+pub of_sides : (p : Plan) (e : Expr) (x : Plan) (a b first second : Expr) → p ≡ P.Select e x → e ≡ both a b → first ≡ a → second ≡ b → IsPair first second p
+of_sides p e x a b first second is h f s = (x, is ∙ (λ i. P.Select (h i) x) ∙ (λ i. P.Select (both (sym f i) (sym s i)) x))
+
+pub splits_pair : (p q : Plan) (first second : Expr) → IsPair first second p → ((e : Expr) (x : Plan) → p ≡ P.Select e x → q ≡ P.Select first (P.Select second x)) → Splits p q
+splits_pair p q first second (y, at) made a b x is =
+    let s = same_select (both first second) (both a b) y x (sym at ∙ is) in
+    let t = same_both first second a b s.0 in
+    made (both a b) x is ∙ (λ i. P.Select (t.0 i) (P.Select (t.1 i) x))
+
+pub splits_none : (p : Plan) → IsNoPair p → Splits p p
+splits_none p never a b x is = absurd (never a b (x, is))
+
+pub selects_twice : (p : Plan) (cond first second : Expr) (input inner : Plan) → p ≡ P.Select cond input → inner ≡ P.Select second input → (e : Expr) (x : Plan) → p ≡ P.Select e x → P.Select first inner ≡ P.Select first (P.Select second x)
+selects_twice p cond first second input inner is h e x at =
+    let s = same_select cond e input x (sym is ∙ at) in
+    (λ i. P.Select first (h i)) ∙ (λ i. P.Select first (P.Select second (s.1 i)))
+
+pub applied_split : (p : Plan) (result : Result Plan ApplyFault) → IfOk result (Splits p) → Matches rule.SplitAnd p → IfOk result (λ q. rule.SplitAnd p q)
+applied_split p result h (q, (a, b, x, at, to)) = if_ok result (Splits p) (λ q. rule.SplitAnd p q) (λ q k. (a, b, x, at, k a b x at)) h
 
 -- ---- the literal `true`
 
@@ -59,12 +68,11 @@ yes_true p e x b is d = decides_from b (e ≡ E.Lit (V.Bool true)) (Matches rule
     back : Matches rule.SelectTrue p → e ≡ E.Lit (V.Bool true)
     back (q, (y, at, to)) = (same_select e (E.Lit (V.Bool true)) x y (sym is ∙ at)).0
 
-pub uncovers_ok : (p : Plan) (e : Expr) (x : Plan) (result : Result Plan NoMemory) → p ≡ P.Select e x → IfOk result (λ q. q ≡ x) → IfOk result (Uncovers p)
-uncovers_ok p e x (Err w) is made = made
-uncovers_ok p e x (Ok q) is made = λ d y at. made ∙ (same_select e d x y (sym is ∙ at)).1
+pub uncovers : (p : Plan) (e : Expr) (x q : Plan) → p ≡ P.Select e x → q ≡ x → Uncovers p q
+uncovers p e x q is same d y at = same ∙ (same_select e d x y (sym is ∙ at)).1
 
-pub applied_true : (p : Plan) (result : Result Plan ApplyFault) (made : Result Plan NoMemory) → IfOk made (Uncovers p) → IfOk result (λ q. made ≡ Ok q) → Matches rule.SelectTrue p → IfOk result (λ q. rule.SelectTrue p q)
-applied_true p result made h e (q, (x, at, to)) = or_back_ok result made (Uncovers p) (λ q. rule.SelectTrue p q) (λ q k. (x, at, k (E.Lit (V.Bool true)) x at)) h e
+pub applied_true : (p q : Plan) → Uncovers p q → Matches rule.SelectTrue p → rule.SelectTrue p q
+applied_true p q h (z, (x, at, to)) = (x, at, h (E.Lit (V.Bool true)) x at)
 
 -- ---- a join
 
@@ -77,12 +85,34 @@ other_into p e x is never (q, (d, c, l, r, at, to)) = never c l r (same_select e
 pub yes_into : (p : Plan) (e : Expr) (x : Plan) (c : Expr) (l r : Plan) → p ≡ P.Select e x → x ≡ P.Join c l r → Matches rule.SelectIntoJoin p
 yes_into p e x c l r is h = (P.Join (both c e) l r, (e, c, l, r, is ∙ ap (P.Select e) h, refl))
 
-pub joins_ok : (p : Plan) (e : Expr) (x : Plan) (c : Expr) (l r : Plan) (result : Result Plan NoMemory) → p ≡ P.Select e x → x ≡ P.Join c l r → IfOk result (λ q. q ≡ P.Join (both c e) l r) → IfOk result (Joins p)
-joins_ok p e x c l r (Err w) is h made = made
-joins_ok p e x c l r (Ok q) is h made = λ d o m s at.
-    let t = same_select e d x (P.Join o m s) (sym is ∙ at) in
-    let u = same_join c o l m r s (sym h ∙ t.1) in
-    made ∙ (λ i. P.Join (both (u.0 i) (t.0 i)) (u.1 i) (u.2 i))
+pub no_join_none : (p : Plan) → IsNoSelect p → IsOverNoJoin p
+no_join_none p never e c l r is = never e (P.Join c l r) is
 
-pub applied_into : (p : Plan) (result : Result Plan ApplyFault) (made : Result Plan NoMemory) → IfOk made (Joins p) → IfOk result (λ q. made ≡ Ok q) → Matches rule.SelectIntoJoin p → IfOk result (λ q. rule.SelectIntoJoin p q)
-applied_into p result made h e (q, (d, c, l, r, at, to)) = or_back_ok result made (Joins p) (λ q. rule.SelectIntoJoin p q) (λ q k. (d, c, l, r, at, k d c l r at)) h e
+pub no_join_other : (p : Plan) (e : Expr) (x : Plan) → p ≡ P.Select e x → ((c : Expr) (l r : Plan) → x ≡ P.Join c l r → ⊥) → IsOverNoJoin p
+no_join_other p e x is never d c l r at = never c l r (same_select e d x (P.Join c l r) (sym is ∙ at)).1
+
+pub condition_of : (p : Plan) (e : Expr) (x : Plan) (c : Expr) (l r : Plan) (d : Expr) → p ≡ P.Select e x → x ≡ P.Join c l r → d ≡ both c e → IsJoinedCondition p d
+condition_of p e x c l r d is h made f o m s at =
+    let t = same_select e f x (P.Join o m s) (sym is ∙ at) in
+    let u = same_join c o l m r s (sym h ∙ t.1) in
+    made ∙ (λ i. both (u.0 i) (t.0 i))
+
+pub under_select : (p : Plan) (cond : Expr) (x q : Plan) (d : Expr) → p ≡ P.Select cond x → ((c : Expr) (l r : Plan) → x ≡ P.Join c l r → q ≡ P.Join d l r) → (e c : Expr) (l r : Plan) → p ≡ P.Select e (P.Join c l r) → q ≡ P.Join d l r
+under_select p cond x q d is made e c l r at = made c l r (same_select cond e x (P.Join c l r) (sym is ∙ at)).1
+
+pub no_select_under : (p q : Plan) (d : Expr) → IsNoSelect p → (e c : Expr) (l r : Plan) → p ≡ P.Select e (P.Join c l r) → q ≡ P.Join d l r
+no_select_under p q d never e c l r at = absurd (never e (P.Join c l r) at)
+
+pub under_join : (p : Plan) (c : Expr) (l r : Plan) (d : Expr) → p ≡ P.Join c l r → (o : Expr) (m s : Plan) → p ≡ P.Join o m s → P.Join d l r ≡ P.Join d m s
+under_join p c l r d is o m s at =
+    let u = same_join c o l m r s (sym is ∙ at) in
+    λ i. P.Join d (u.1 i) (u.2 i)
+
+pub joins_with : (p q : Plan) (d : Expr) → IsJoinedCondition p d → ((e c : Expr) (l r : Plan) → p ≡ P.Select e (P.Join c l r) → q ≡ P.Join d l r) → Joins p q
+joins_with p q d cond made e c l r at = made e c l r at ∙ (λ i. P.Join (cond e c l r at i) l r)
+
+pub joins_none : (p : Plan) → IsOverNoJoin p → Joins p p
+joins_none p never e c l r at = absurd (never e c l r at)
+
+pub applied_into : (p : Plan) (result : Result Plan ApplyFault) → IfOk result (Joins p) → Matches rule.SelectIntoJoin p → IfOk result (λ q. rule.SelectIntoJoin p q)
+applied_into p result h (q, (d, c, l, r, at, to)) = if_ok result (Joins p) (λ q. rule.SelectIntoJoin p q) (λ q k. (d, c, l, r, at, k d c l r at)) h

@@ -13,6 +13,13 @@ IsNoSelect p = (e : Expr) (x : Plan) → p ≡ P.Select e x → ⊥
 abbrev pub Lowers : ℕ → Plan → Plan → Type 0
 Lowers i p q = (e : Expr) (x y : Plan) → p ≡ P.Select e x → input x i ≡ Some y → q ≡ with_input x i (P.Select e y)
 
+-- a select of these two conjuncts
+abbrev pub IsPair : Expr → Expr → Plan → Type 0
+IsPair a b p = (x : Plan) × (p ≡ P.Select (both a b) x)
+
+abbrev pub IsNoPair : Plan → Type 0
+IsNoPair p = (a b : Expr) → IsPair a b p → ⊥
+
 -- of a select of two conjuncts, two selects
 abbrev pub Splits : Plan → Plan → Type 0
 Splits p q = (a b : Expr) (x : Plan) → p ≡ P.Select (both a b) x → q ≡ P.Select a (P.Select b x)
@@ -20,6 +27,13 @@ Splits p q = (a b : Expr) (x : Plan) → p ≡ P.Select (both a b) x → q ≡ P
 -- of a select, its input
 abbrev pub Uncovers : Plan → Plan → Type 0
 Uncovers p q = (e : Expr) (x : Plan) → p ≡ P.Select e x → q ≡ x
+
+-- the condition of the join under a select, with the select's condition as a conjunct
+abbrev pub IsOverNoJoin : Plan → Type 0
+IsOverNoJoin p = (e c : Expr) (l r : Plan) → p ≡ P.Select e (P.Join c l r) → ⊥
+
+abbrev pub IsJoinedCondition : Plan → Expr → Type 0
+IsJoinedCondition p d = (e c : Expr) (l r : Plan) → p ≡ P.Select e (P.Join c l r) → d ≡ both c e
 
 -- of a select over a join, the join with the select's condition as a conjunct
 abbrev pub Joins : Plan → Plan → Type 0

@@ -1,6 +1,6 @@
 //! A select that goes below the operator under it.
 
-ghost use Rattle.std.specs.Prelude.{◌≡◌, Some, IfOk, Ok, MatchOption};
+ghost use Rattle.std.specs.Prelude.{◌≡◌, Some, IfOk, MatchOption};
 ghost use Rattle.al_plan.specs.declared.plan.Plan.{Plan};
 ghost use Rattle.al_plan.specs.declared.plan.Plan.TheVariants as P;
 ghost use Rattle.al_rule.specs.Places.{input, with_input};
@@ -8,8 +8,8 @@ ghost use Rattle.al_rule.specs.Rules.{HandsBack};
 ghost use Rattle.al_rules_select.specs.Lowers.{IsNoSelect, Lowers};
 
 use al_plan::{Expr, Plan};
-use al_rule::{ApplyFault, input, put_input};
-use al_value::{Boxed, NoMemory};
+use al_rule::{ApplyFault, put_back, take_input};
+use al_value::Boxed;
 use std::alloc::Global;
 
 /// The condition and the input of a select.
@@ -22,43 +22,29 @@ pub fn select_parts(p: &Plan) -> Option<(&Expr, &Plan)>
     }
 }
 
-/// An operator with a select of this condition and this input as its child `i`.
-fn with_select(
-    alloc: Global,
-    cond: &Expr,
-    over: &Plan,
-    part: &Plan,
-    i: u32,
-) -> Result<Plan, NoMemory>
-    ensures { IfOk result (λ q. (x : Plan) → input over.now i ≡ Some x → q ≡ with_input over.now i (P.Select cond.now part.now)) }
+/// An operator with a select of this condition over its input that is child `i`. The operator and
+/// its inputs keep their boxes, and the select gets the spare one.
+fn select_below(cond: Expr, over: Boxed<Plan>, i: u32, spare: Boxed<Plan>) -> Plan
+    ensures { (x : Plan) → input over i ≡ Some x → result ≡ with_input over i (P.Select cond x) }
 {
-    let cond = cond.copy(alloc)?;
-    let part = Boxed::new(alloc, part.copy(alloc)?)?;
-    let selected = Plan::Select { cond, input: part };
-    put_input(alloc, over.copy(alloc)?, i, selected)
+    let mut over = over;
+    let operator = over.replace(Plan::Empty);
+    let (rest, part, input) = take_input(operator, i, over);
+    let mut input = input;
+    // Calls drop the plans, since what drops in place is proved variant by variant.
+    drop(input.replace(part));
+    let (whole, spare) = put_back(rest, i, Plan::Select { cond, input }, spare);
+    drop(spare);
+    whole
 }
 
 /// Of a select over an operator, the operator with the select over its input that is child `i`.
-fn lowered(alloc: Global, p: &Plan, i: u32) -> Result<Plan, NoMemory>
-    ensures { IfOk result (Lowers i p.now) }
+fn lowered(p: Plan, i: u32, spare: Boxed<Plan>) -> Plan
+    ensures { Lowers i p result }
 {
-    let Some((cond, over)) = select_parts(p) else {
-        return p.copy(alloc);
-    };
-    match input(over, i) {
-        Some(part) => with_select(alloc, cond, over, part, i),
-        None => p.copy(alloc),
-    }
-}
-
-/// What was made of a plan, or the plan as it was where memory was wanted.
-pub fn or_back(p: Plan, made: Result<Plan, NoMemory>) -> Result<Plan, ApplyFault>
-    ensures made { IfOk result (λ q. made ≡ Ok q) }
-    ensures handed_back { HandsBack p result }
-{
-    match made {
-        Ok(q) => Ok(q),
-        Err(_) => Err(ApplyFault::NoMemory(p)),
+    match p {
+        Plan::Select { cond, input } => select_below(cond, input, i, spare),
+        other => other,
     }
 }
 
@@ -67,6 +53,8 @@ pub fn lower(alloc: Global, p: Plan, i: u32) -> Result<Plan, ApplyFault>
     ensures lowered { IfOk result (Lowers i p) }
     ensures handed_back { HandsBack p result }
 {
-    let made = lowered(alloc, &p, i);
-    or_back(p, made)
+    match Boxed::new(alloc, Plan::Empty) {
+        Ok(spare) => Ok(lowered(p, i, spare)),
+        Err(_) => Err(ApplyFault::NoMemory(p)),
+    }
 }

@@ -1,55 +1,92 @@
 //! Rules that take a select apart, drop it or make it a part of a join.
 
 ghost use Rattle.al_rule.specs.declared.names.RuleName.TheVariants as called;
-ghost use Rattle.std.specs.Prelude.{◌≡◌, true, IfOk};
+ghost use Rattle.std.specs.Prelude.{◌≡◌, true, IfOk, MatchOption};
 ghost use Rattle.al_value.specs.declared.value.Value.TheVariants as V;
 ghost use Rattle.al_plan.specs.declared.expr.Expr.{Expr};
 ghost use Rattle.al_plan.specs.declared.expr.Expr.TheVariants as E;
 ghost use Rattle.al_plan.specs.declared.plan.Plan.{Plan};
 ghost use Rattle.al_plan.specs.declared.plan.Plan.TheVariants as P;
 ghost use Rattle.al_conj.specs.Conj.{both as spec_both};
-ghost use Rattle.al_rule.specs.Rules.{Decides};
-ghost use Rattle.al_rules_select.specs.Lowers.{Splits, Uncovers, Joins};
+ghost use Rattle.al_rule.specs.Rules.{Decides, HandsBack};
+ghost use Rattle.al_rules_select.specs.Lowers.{IsNoPair, IsPair, IsJoinedCondition, IsOverNoJoin, Splits, Uncovers, Joins};
 ghost use Rattle.al_rules_select.specs.Selects as meaning;
 ghost use Rattle.al_rules_select.specs.Sound as sound;
 
-use crate::lower::{or_back, select_parts};
+use crate::lower::select_parts;
 use al_conj::{both, sides};
 use al_plan::{Expr, Plan};
 use al_rule::{ApplyFault, Rule, RuleName};
 use al_value::{Boxed, NoMemory, Value};
 use std::alloc::Global;
 
-fn selected(alloc: Global, cond: &Expr, input: Plan) -> Result<Plan, NoMemory>
-    ensures { IfOk result (λ q. q ≡ P.Select cond.now input) }
-{
-    let cond = cond.copy(alloc)?;
-    let input = Boxed::new(alloc, input)?;
-    Ok(Plan::Select { cond, input })
+/// The sides of a select's condition, and a spare box.
+#[derive(Drop)]
+struct Halves {
+    first: Expr,
+    second: Expr,
+    spare: Boxed<Plan>,
 }
 
-fn selected_twice(
-    alloc: Global,
-    first: &Expr,
-    second: &Expr,
-    input: &Plan,
-) -> Result<Plan, NoMemory>
-    ensures { IfOk result (λ q. q ≡ P.Select first.now (P.Select second.now input.now)) }
+/// Copies of the sides of a select's condition, and a box for one select more.
+#[tactic(auto, using(crate::proofs::WholeLaws::no_select, crate::proofs::WholeLaws::no_sides, crate::proofs::WholeLaws::of_sides))]
+fn copied_sides(alloc: Global, p: &Plan) -> Result<Option<Halves>, NoMemory>
+    ensures { IfOk result (λ found. MatchOption found (IsNoPair p.now) (λ h. IsPair h.first h.second p.now)) }
 {
-    let input = input.copy(alloc)?;
-    let inner = selected(alloc, second, input)?;
-    selected(alloc, first, inner)
-}
-
-fn split(alloc: Global, p: &Plan) -> Result<Plan, NoMemory>
-    ensures { IfOk result (Splits p.now) }
-{
-    let Some((e, input)) = select_parts(p) else {
-        return p.copy(alloc);
+    let Some((e, _)) = select_parts(p) else {
+        return Ok(None);
     };
-    match sides(e) {
-        Some((a, b)) => selected_twice(alloc, a, b, input),
-        None => p.copy(alloc),
+    let Some((a, b)) = sides(e) else {
+        return Ok(None);
+    };
+    let first = a.copy(alloc)?;
+    let second = b.copy(alloc)?;
+    let spare = Boxed::new(alloc, Plan::Empty)?;
+    Ok(Some(Halves {
+        first,
+        second,
+        spare,
+    }))
+}
+
+/// Two selects over the input of a select, which keeps its box.
+#[tactic(auto, using(crate::proofs::WholeLaws::selects_twice))]
+fn selected_twice(p: Plan, halves: Halves) -> Plan
+    ensures { (e : Expr) (x : Plan) → p ≡ P.Select e x → result ≡ P.Select halves.first (P.Select halves.second x) }
+{
+    let Halves {
+        first,
+        second,
+        spare,
+    } = halves;
+    match p {
+        Plan::Select { cond, input } => {
+            drop(cond);
+            let mut inner = spare;
+            // A call, since what drops in place is proved variant by variant.
+            drop(inner.replace(Plan::Select {
+                cond: second,
+                input,
+            }));
+            Plan::Select {
+                cond: first,
+                input: inner,
+            }
+        }
+        other => other,
+    }
+}
+
+#[tactic(auto, using(crate::proofs::WholeLaws::splits_pair))]
+fn split(alloc: Global, p: Plan) -> Result<Plan, ApplyFault>
+    ensures splits { IfOk result (Splits p) }
+    ensures handed_back { HandsBack p result }
+{
+    let found = copied_sides(alloc, &p);
+    match found {
+        Ok(Some(halves)) => Ok(selected_twice(p, halves)),
+        Ok(None) => Ok(p),
+        Err(_) => Err(ApplyFault::NoMemory(p)),
     }
 }
 
@@ -80,8 +117,7 @@ impl Rule for SplitAnd {
     }
 
     fn apply(&self, alloc: Global, p: Plan) -> Result<Plan, ApplyFault> {
-        let made = split(alloc, &p);
-        or_back(p, made)
+        split(alloc, p)
     }
 }
 
@@ -94,13 +130,15 @@ fn is_true(e: &Expr) -> bool
     }
 }
 
-#[tactic(auto, using(crate::proofs::WholeLaws::uncovers_ok))]
-fn uncovered(alloc: Global, p: &Plan) -> Result<Plan, NoMemory>
-    ensures { IfOk result (Uncovers p.now) }
+fn uncovered(p: Plan) -> Plan
+    ensures { Uncovers p result }
 {
-    match select_parts(p) {
-        Some((_, input)) => input.copy(alloc),
-        None => p.copy(alloc),
+    match p {
+        Plan::Select { cond, input } => {
+            drop(cond);
+            input.into_inner()
+        }
+        other => other,
     }
 }
 
@@ -127,36 +165,73 @@ impl Rule for SelectTrue {
         }
     }
 
-    fn apply(&self, alloc: Global, p: Plan) -> Result<Plan, ApplyFault> {
-        let made = uncovered(alloc, &p);
-        or_back(p, made)
+    fn apply(&self, _alloc: Global, p: Plan) -> Result<Plan, ApplyFault> {
+        Ok(uncovered(p))
     }
 }
 
-fn join_of_both(
-    alloc: Global,
-    cond: &Expr,
-    more: &Expr,
-    left: &Plan,
-    right: &Plan,
-) -> Result<Plan, NoMemory>
-    ensures { IfOk result (λ q. q ≡ P.Join (spec_both cond.now more.now) left.now right.now) }
+/// Copies of two conditions as one.
+fn conjoined(alloc: Global, cond: &Expr, more: &Expr) -> Result<Expr, NoMemory>
+    ensures { IfOk result (λ d. d ≡ spec_both cond.now more.now) }
 {
-    let cond = both(alloc, cond.copy(alloc)?, more.copy(alloc)?)?;
-    let left = Boxed::new(alloc, left.copy(alloc)?)?;
-    let right = Boxed::new(alloc, right.copy(alloc)?)?;
-    Ok(Plan::Join { cond, left, right })
+    both(alloc, cond.copy(alloc)?, more.copy(alloc)?)
 }
 
-fn joined(alloc: Global, p: &Plan) -> Result<Plan, NoMemory>
-    ensures { IfOk result (Joins p.now) }
+/// The condition of the join under a select, with the select's condition as a conjunct.
+#[tactic(auto, using(crate::proofs::WholeLaws::no_join_none, crate::proofs::WholeLaws::no_join_other, crate::proofs::WholeLaws::condition_of))]
+fn joined_condition(alloc: Global, p: &Plan) -> Result<Option<Expr>, NoMemory>
+    ensures { IfOk result (λ found. MatchOption found (IsOverNoJoin p.now) (IsJoinedCondition p.now)) }
 {
     let Some((e, over)) = select_parts(p) else {
-        return p.copy(alloc);
+        return Ok(None);
     };
     match over {
-        Plan::Join { cond, left, right } => join_of_both(alloc, cond, e, left.get(), right.get()),
-        _ => p.copy(alloc),
+        Plan::Join { cond, .. } => Ok(Some(conjoined(alloc, cond, e)?)),
+        _ => Ok(None),
+    }
+}
+
+/// The join under a select, with another condition. Its inputs keep their boxes.
+#[tactic(auto, using(crate::proofs::WholeLaws::under_select))]
+fn with_condition(p: Plan, new: Expr) -> Plan
+    ensures { (e c : Expr) (l r : Plan) → p ≡ P.Select e (P.Join c l r) → result ≡ P.Join new l r }
+{
+    match p {
+        Plan::Select { cond, input } => {
+            drop(cond);
+            under_condition(input.into_inner(), new)
+        }
+        other => other,
+    }
+}
+
+/// A join with another condition.
+#[tactic(auto, using(crate::proofs::WholeLaws::under_join))]
+fn under_condition(p: Plan, new: Expr) -> Plan
+    ensures { (c : Expr) (l r : Plan) → p ≡ P.Join c l r → result ≡ P.Join new l r }
+{
+    match p {
+        Plan::Join { cond, left, right } => {
+            drop(cond);
+            Plan::Join {
+                cond: new,
+                left,
+                right,
+            }
+        }
+        other => other,
+    }
+}
+
+fn joined(alloc: Global, p: Plan) -> Result<Plan, ApplyFault>
+    ensures joins { IfOk result (Joins p) }
+    ensures handed_back { HandsBack p result }
+{
+    let found = joined_condition(alloc, &p);
+    match found {
+        Ok(Some(cond)) => Ok(with_condition(p, cond)),
+        Ok(None) => Ok(p),
+        Err(_) => Err(ApplyFault::NoMemory(p)),
     }
 }
 
@@ -187,7 +262,6 @@ impl Rule for SelectIntoJoin {
     }
 
     fn apply(&self, alloc: Global, p: Plan) -> Result<Plan, ApplyFault> {
-        let made = joined(alloc, &p);
-        or_back(p, made)
+        joined(alloc, p)
     }
 }

@@ -1,5 +1,8 @@
-use Rattle.al_rules_select.proofs.SelectLaws.{lowers_ok}
+use Rattle.al_rules_select.proofs.SelectLaws.{lowers_none, lowers_select}
 use Rattle.al_rules_select.proofs.lower.lowered.Goals as goal
 
-pub returns-in-Some-input : goal.returns-in-Some-input
-returns-in-Some-input c = lowers_ok c.args.i c.args.p.now c.in-Some.over.now c.in-Some-input.part.now c.in-Some.cond.now c.with_select.result c.in-Some.ensures c.in-Some-input.ensures c.with_select.ensures
+pub returns-in-Select : goal.returns-in-Select
+returns-in-Select c = lowers_select c.args.i c.args.p c.in-Select.input c.select_below.result c.in-Select.cond c.in-Select.is c.select_below.ensures
+
+pub returns-in_default : goal.returns-in_default
+returns-in_default c = lowers_none c.args.i c.args.p c.args.p (λ e x is. c.in_default.not-Select e x is)

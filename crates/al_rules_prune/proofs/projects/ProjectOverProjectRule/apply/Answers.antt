@@ -1,14 +1,9 @@
-use Rattle.std.proofs.Common.{sym, subst, IfOk, Result}
-use Rattle.al_plan.specs.declared.plan.Plan.{Plan}
-use Rattle.al_plan.specs.Refines.{Replaces}
-use Rattle.al_rule.specs.declared.rule.ApplyFault.{ApplyFault}
-use Rattle.al_rules_prune.specs.Prunes as meaning
 use Rattle.al_rules_prune.specs.Sound as sound
-use Rattle.al_rules_prune.proofs.MatchLaws.{applies, refines}
+use Rattle.al_rules_prune.proofs.MatchLaws.{applied_project}
 use Rattle.al_rules_prune.proofs.projects.ProjectOverProjectRule.apply.Goals as goal
 
 pub returns-clause-applied : goal.returns-clause-applied
-returns-clause-applied c = λ m. subst (λ (x : Result Plan ApplyFault). IfOk x (λ q. meaning.ProjectOverProject c.args.p q)) (sym c.outcome.ensures) (applies meaning.ProjectOverProject c.args.p c.one_project-made.result c.one_project-made.ensures m)
+returns-clause-applied c = applied_project c.args.p c.one_project.result c.one_project.ensures
 
 pub returns-clause-refines : goal.returns-clause-refines
-returns-clause-refines c = λ m fit. subst (λ (x : Result Plan ApplyFault). IfOk x (λ q. Replaces q c.args.p)) (sym c.outcome.ensures) (refines meaning.ProjectOverProject sound.project_over_project c.args.p c.one_project-made.result c.one_project-made.ensures m fit)
+returns-clause-refines c m fit = sound.project_over_project c.args.p c.one_project.result fit (applied_project c.args.p c.one_project.result c.one_project.ensures m)

@@ -5,7 +5,7 @@ use Rattle.al_rules_select.proofs.WholeLaws.{applied_into}
 use Rattle.al_rules_select.proofs.whole.SelectIntoJoinRule.apply.Goals as goal
 
 pub returns-clause-applied : goal.returns-clause-applied
-returns-clause-applied c = applied_into c.args.p c.or_back.result c.joined-made.result c.joined-made.ensures c.or_back.ensures.made
+returns-clause-applied c = applied_into c.args.p c.joined.result c.joined.ensures.joins
 
 pub returns-clause-refines : goal.returns-clause-refines
-returns-clause-refines c = refines_by meaning.SelectIntoJoin sound.into_join c.args.p c.or_back.result (applied_into c.args.p c.or_back.result c.joined-made.result c.joined-made.ensures c.or_back.ensures.made)
+returns-clause-refines c = refines_by meaning.SelectIntoJoin sound.into_join c.args.p c.joined.result (applied_into c.args.p c.joined.result c.joined.ensures.joins)

@@ -6,7 +6,7 @@ use Rattle.al_rule.specs.declared.names.SetName.TheVariants as S
 use Rattle.al_opt.specs.Optimised.{is_once, rules_of}
 use Rattle.al_opt.proofs.OptimisedLaws.{Optimised, none_left, one_more, optimised}
 use Rattle.al_opt.proofs.OneTrace.{traces_are_one}
-use Rattle.al_opt.proofs.optimiser.optimise.Goals as goal
+use Rattle.al_opt.proofs.optimiser.drive.Goals as goal
 
 pub returns : goal.returns
 returns c =
