@@ -1,0 +1,5 @@
+use Rattle.hy_wire_runs.specs.Lines.{IsLine}
+use Rattle.hy_connect_tests.proofs.wires.all_come.Given as goal
+
+abbrev pub invariant-loop-k : goal.invariant-loop-k
+invariant-loop-k g l = IsLine l.line

@@ -1,0 +1,4 @@
+pub mod DeskRuns
+pub mod LineRuns
+pub mod MergeRuns
+pub mod ReadRuns
